@@ -1,0 +1,59 @@
+-- The answers of document 01, and which of them each value of the interface is.
+use mathlib.Core.Bool.{false}
+use mathlib.Core.List.{[], _∷_}
+use Prim.Native.Nat.{ℕ}
+use Rattle.interface.specs.declared.Session.{Session}
+use Rattle.interface.specs.declared.Refusal.{Refusal}
+use Rattle.interface.specs.declared.Refusal.the-variants.{NotSound, BadSession, NoClient, AlreadyActive, NotActive, NoFile, FileInUse, NotHeld, NoPage, BadPageLength, NoFreeSlot, RecordFull, BadVolumeLength, BadShape, TooFewSectors}
+use Rattle.interface.specs.declared.Outcome.{Outcome}
+use Rattle.interface.specs.declared.ReadOutcome.{ReadOutcome}
+use Rattle.interface.specs.declared.FormatOutcome.{FormatOutcome}
+
+-- "A new session has no kiln open."
+abbrev pub newSession : Session
+newSession = record { active = false ∷ false ∷ false ∷ false ∷ [] }
+
+-- "answers cut with the number of stores made .. Otherwise it answers done with that number"; a refusal has the table's number.
+pub data Answer : Type 0 where
+  done crashed refused : ℕ → Answer
+
+-- Read "answers the sector number"; or a refusal's number.
+pub data ReadAnswer : Type 0 where
+  found readRefused : ℕ → ReadAnswer
+
+-- Layout "answers done without a count"; or a refusal's number.
+pub data FormatAnswer : Type 0 where
+  formatDone : FormatAnswer
+  formatRefused : ℕ → FormatAnswer
+
+-- The numbers of the table under Refusals.
+abbrev pub refusalNumber : Refusal → ℕ
+refusalNumber NotSound = 1
+refusalNumber BadSession = 2
+refusalNumber NoClient = 3
+refusalNumber AlreadyActive = 4
+refusalNumber NotActive = 5
+refusalNumber NoFile = 6
+refusalNumber FileInUse = 7
+refusalNumber NotHeld = 8
+refusalNumber NoPage = 9
+refusalNumber BadPageLength = 10
+refusalNumber NoFreeSlot = 11
+refusalNumber RecordFull = 12
+refusalNumber BadVolumeLength = 13
+refusalNumber BadShape = 14
+refusalNumber TooFewSectors = 15
+
+-- Each case of an outcome, as the paper has it.
+abbrev pub answerOf : Outcome → Answer
+answerOf (Outcome.Done n) = done n
+answerOf (Outcome.Crashed n) = crashed n
+answerOf (Outcome.Refused r) = refused (refusalNumber r)
+
+abbrev pub readAnswerOf : ReadOutcome → ReadAnswer
+readAnswerOf (ReadOutcome.Sector n) = found n
+readAnswerOf (ReadOutcome.Refused r) = readRefused (refusalNumber r)
+
+abbrev pub formatAnswerOf : FormatOutcome → FormatAnswer
+formatAnswerOf FormatOutcome.Done = formatDone
+formatAnswerOf (FormatOutcome.Refused r) = formatRefused (refusalNumber r)

@@ -1,0 +1,85 @@
+-- The calls and their stores, in order, each store by its meaning.
+use mathlib.Core.Bool.{Bool, true, false, not, _&&_}
+use mathlib.Core.List.{List, [], _∷_, _++_}
+use mathlib.Core.Option.{Option, none, some}
+use Prim.Native.Nat.{ℕ}
+use lib.Dec.{eqb}
+use lib.ListN.{getD}
+use Rattle.interface.specs.declared.Session.{Session}
+use Rattle.sector.specs.Lists.{if_then_else_, any, filter, find, member, from}
+use Rattle.sector.specs.Contents.{Bytes, File, Entry, Record, Header, openRecord, decidedRecord}
+use Rattle.volume.specs.Places.{fileAt}
+use Rattle.volume.specs.Views.{View, Update, setRecord, setHeader, setSlot, forPage, givesSlot}
+use Rattle.rules.specs.Sessions.{setActive, isOrphaned}
+use Rattle.rules.specs.Recovery.{isDecided, mapAfter, recovery}
+
+-- The calls that store, with their arguments.
+pub data Call : Type 0 where
+  begin : (client : ℕ) → Call
+  openFile : (client : ℕ) → (file : ℕ) → Call
+  write : (client : ℕ) → (file : ℕ) → (page : ℕ) → Bytes → Call
+  commit : (client : ℕ) → Call
+  abort : (client : ℕ) → Call
+
+-- ------------------------------------------------------------------ pages and slots
+-- The entry that record k has for (f, p).
+abbrev pub entryFor : View → ℕ → ℕ → ℕ → Option Entry
+entryFor a k f p = find (forPage f p) (a .records k .entries)
+
+-- The slots of f that are "neither in its map nor given for f in record k", rising.
+unfoldable pub freeSlots : View → ℕ → ℕ → List ℕ
+freeSlots a k f = filter
+    (λ r. not (member r (a .headers f .map)) && not (any (givesSlot f r) (a .records k .entries)))
+    (from 0 (fileAt (a .table) f .slots))
+
+-- "the lowest real of f" of those: the slot that a new entry for page p takes.
+unfoldable pub chosen : View → ℕ → ℕ → ℕ → ℕ
+chosen a k f p = getD (freeSlots a k f) 0 0
+
+-- Where a read finds the page: the slot "that (f, p) has in record k, else by the map".
+abbrev pub slotFor : View → ℕ → ℕ → Option Entry → ℕ
+slotFor a f p (some e) = e .slot
+slotFor a f p none = getD (a .headers f .map) p 0
+
+-- ------------------------------------------------------------------ the stores of each call
+-- "recover k if interrupted; store record k open, C = 0"
+unfoldable pub beginPlan : View → Session → ℕ → List Update
+beginPlan a s k = (if isOrphaned a s k then recovery (isDecided a k) a k else []) ++ (setRecord k openRecord ∷ [])
+
+-- "if k holds f, nothing. Else if an interrupted kiln holds f, recover that kiln; then store f's header with holder k." The
+-- map stored is the one after that recovery. A holder that isn't interrupted is refused before.
+unfoldable pub openPlan : View → ℕ → ℕ → List Update
+openPlan a k f =
+    let holder = a .headers f .holder in
+    let redo = isDecided a holder in
+    if eqb holder k then []
+    else if eqb holder 0 then setHeader f (record { holder = k; map = a .headers f .map }) ∷ []
+    else recovery redo a holder ++ (setHeader f (record { holder = k; map = mapAfter redo a holder f }) ∷ [])
+
+-- Record k "with the entry appended".
+abbrev pub appended : Record → Entry → Record
+appended r e = record { state = r .state; entries = r .entries ++ (e ∷ []) }
+
+-- "if record k has (f, p), store the page in that real sector. Else take the lowest real ..; store the page there; store
+-- record k with the entry appended."
+abbrev pub writePlan : View → ℕ → ℕ → ℕ → Bytes → Option Entry → List Update
+writePlan a k f p d (some e) = setSlot f (e .slot) d ∷ []
+writePlan a k f p d none =
+    let r = chosen a k f p in
+    setSlot f r d ∷ setRecord k (appended (a .records k) (record { file = f; page = p; slot = r })) ∷ []
+
+-- Commit: "store record k decided; then the stores of recover k". Abort: "the stores of recover k while open".
+unfoldable pub plan : View → Session → Call → List Update
+plan a s (begin k) = beginPlan a s k
+plan a s (openFile k f) = openPlan a k f
+plan a s (write k f p d) = writePlan a k f p d (entryFor a k f p)
+plan a s (commit k) = setRecord k (decidedRecord (a .records k)) ∷ recovery true a k
+plan a s (abort k) = recovery false a k
+
+-- The session that a call hands back when it is done: begin marks k, commit and abort unmark k.
+abbrev pub sessionAfter : Session → Call → Session
+sessionAfter s (begin k) = setActive s k true
+sessionAfter s (openFile k f) = s
+sessionAfter s (write k f p d) = s
+sessionAfter s (commit k) = setActive s k false
+sessionAfter s (abort k) = setActive s k false

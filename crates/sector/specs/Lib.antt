@@ -1,0 +1,5 @@
+pub mod Lists
+pub mod Contents
+pub mod Sectors
+pub mod Encoding
+pub mod Decoding
