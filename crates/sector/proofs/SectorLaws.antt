@@ -57,8 +57,8 @@ module _ (v : Volume) (s : ℕ) (d : Bytes) (inside : 256 * s + 256 ≤ length v
       let e : 256 * t ≡ 256 * s + (256 + m) = omega arith in
       let e2 : 256 * t ≡ (256 * s + 256) + m = omega arith in
       let q : drop (256 * t) (take (256 * s) v ++ (d ++ drop (256 * s + 256) v)) ≡ drop (256 * t) v =
-          rw e (behind (take (256 * s) v) (d ++ drop (256 * s + 256) v) (256 * s) (256 + m) before-length
-          ∙ behind d (drop (256 * s + 256) v) 256 m full ∙ drop-drop m (256 * s + 256) v ∙ ap (λ (i : ℕ). drop i v) (sym e2 ∙ e)) in
+      rw e (behind (take (256 * s) v) (d ++ drop (256 * s + 256) v) (256 * s) (256 + m) before-length
+      ∙ behind d (drop (256 * s + 256) v) 256 m full ∙ drop-drop m (256 * s + 256) v ∙ ap (λ (i : ℕ). drop i v) (sym e2 ∙ e)) in
       ap (take 256) q
 
   pub store-other : (t : ℕ) → t ≢ s → sector (storeAt v s d) t ≡ sector v t

@@ -6,7 +6,6 @@ use Prim.Native.Nat.{ℕ, zero, suc}
 use lib.Dec.{eqb, leb}
 
 infixr 1 if_then_else_
-
 abbrev pub if_then_else_ : {A : Type 0} → Bool → A → A → A
 if_then_else_ true a b = a
 if_then_else_ false a b = b

@@ -49,18 +49,21 @@ recordFits t r = all
 abbrev pub apart : ℕ → List Entry → List ℕ → Bool
 apart f es m = every (λ e. not (forFile f e && member (e .slot) m)) es
 
--- "map bytes are below R and distinct in a file"; "a header naming kiln k has k at most T and record k open or decided; and
--- if header f names k, no real that record k gives for f is in f's map"; a map has P bytes.
+-- "a header naming kiln k has k at most T and record k open or decided; and if header f names k, no real that record k gives
+-- for f is in f's map"
+abbrev pub holderFits : (ℕ → Record) → Table → ℕ → Header → Bool
+holderFits records t f h = all
+    (leb (h .holder) (t .clients)
+    ∷ not (eqb (records (h .holder) .state) 0)
+    ∷ apart f (records (h .holder) .entries) (h .map)
+    ∷ [])
+
+-- "map bytes are below R and distinct in a file"; the holder, if there is one, fits; the map has P bytes.
 abbrev pub headerFits : (ℕ → Record) → Table → ℕ → Header → Bool
 headerFits records t f h = all
     (every (λ r. ltb r (fileAt t f .slots)) (h .map)
     ∷ distinct eqb (h .map)
-    ∷ (eqb (h .holder) 0
-        || all
-            (leb (h .holder) (t .clients)
-            ∷ not (eqb (records (h .holder) .state) 0)
-            ∷ apart f (records (h .holder) .entries) (h .map)
-            ∷ []))
+    ∷ (eqb (h .holder) 0 || holderFits records t f h)
     ∷ eqb (length (h .map)) (fileAt t f .pages)
     ∷ [])
 

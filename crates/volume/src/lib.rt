@@ -8,7 +8,8 @@ impl Limits {
     pub const SECTORS: usize = 1024;
     // The most files of a volume.
     pub const FILES: usize = 16;
-    // The most pages of a file, and the most slots.
+    // The most pages of a file.
     pub const PAGES: u8 = 120;
+    // The most slots of a file.
     pub const SLOTS: u8 = 240;
 }
