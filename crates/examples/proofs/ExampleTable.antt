@@ -3,6 +3,7 @@
 use mathlib.Core.Bool.{Bool, true, false, _&&_}
 use lib.Dec.{T}
 use Rattle.sector.specs.Lists.{if_then_else_, all, first, every}
+use Rattle.sector.specs.Entries.{redone}
 use Rattle.sector.specs.Sectors.{sector, storeAt, padded}
 use Rattle.sector.specs.Encoding.{fileBytes, encodeTable, entryBytes, encodeRecord, encodeHeader}
 use Rattle.sector.specs.Decoding.{decodeFiles, decodeTable, decodeEntries, decodeRecord, decodeHeader}
@@ -14,7 +15,7 @@ use Rattle.volume.specs.Stores.{stored, allStores}
 use Rattle.volume.specs.Format.{filesOf, formatTests, repeated, newFiles, newVolume, format}
 use Rattle.volume.specs.Listing.{decimal, clientLine, fileLine, listing, printed}
 use Rattle.rules.specs.Sessions.{markFits, sessionFits}
-use Rattle.rules.specs.Recovery.{redone, heldFiles, recovery}
+use Rattle.rules.specs.Recovery.{heldFiles, recovery}
 use Rattle.rules.specs.Plans.{freeSlots, chosen, beginPlan, openPlan, plan}
 use Rattle.rules.specs.Refusals.{tests, readTests}
 use Rattle.rules.specs.Calls.{call, read}

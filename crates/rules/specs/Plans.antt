@@ -8,8 +8,9 @@ use lib.ListN.{getD}
 use Rattle.interface.specs.declared.Session.{Session}
 use Rattle.sector.specs.Lists.{if_then_else_, any, filter, find, member, from}
 use Rattle.sector.specs.Contents.{Bytes, File, Entry, Record, Header, openRecord, decidedRecord}
+use Rattle.sector.specs.Entries.{forPage, givesSlot}
 use Rattle.volume.specs.Places.{fileAt}
-use Rattle.volume.specs.Views.{View, Update, setRecord, setHeader, setSlot, forPage, givesSlot}
+use Rattle.volume.specs.Views.{View, Update, setRecord, setHeader, setSlot}
 use Rattle.rules.specs.Sessions.{setActive, isOrphaned}
 use Rattle.rules.specs.Recovery.{isDecided, mapAfter, recovery}
 

@@ -3,19 +3,14 @@ use mathlib.Core.Bool.{Bool}
 use mathlib.Core.List.{List, [], _∷_, _++_, map}
 use Prim.Native.Nat.{ℕ}
 use lib.Dec.{eqb}
-use lib.ListN.{set}
 use Rattle.sector.specs.Lists.{if_then_else_, filter}
-use Rattle.sector.specs.Contents.{Entry, Record, Header, idleRecord}
+use Rattle.sector.specs.Contents.{Record, Header, idleRecord}
+use Rattle.sector.specs.Entries.{redone}
 use Rattle.volume.specs.Places.{fileNumbers}
-use Rattle.volume.specs.Views.{View, Update, setRecord, setHeader, forFile}
+use Rattle.volume.specs.Views.{View, Update, setRecord, setHeader}
 
 abbrev pub isDecided : View → ℕ → Bool
 isDecided a k = eqb (a .records k .state) 2
-
--- "map[p] = real for each of its entries for that file", in order.
-unfoldable pub redone : ℕ → List Entry → List ℕ → List ℕ
-redone f [] m = m
-redone f (e ∷ es) m = redone f es (if forFile f e then set m (e .page) (e .slot) else m)
 
 -- The map that recovery of k leaves to file f: redone "if the record is decided", else as it is. Commit redoes a record that
 -- was open when the call began, so whether to redo is told.

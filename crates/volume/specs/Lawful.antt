@@ -6,8 +6,9 @@ use lib.Dec.{eqb, leb, ltb}
 use lib.ListN.{length}
 use Rattle.sector.specs.Lists.{between, all, every, distinct, member}
 use Rattle.sector.specs.Contents.{File, Table, Entry, Record, Header}
+use Rattle.sector.specs.Entries.{forFile, forPage, givesSlot}
 use Rattle.volume.specs.Places.{clientNumbers, fileNumbers, fileAt, endSector}
-use Rattle.volume.specs.Views.{View, forFile, forPage, givesSlot}
+use Rattle.volume.specs.Views.{View}
 
 -- "P pages (1 to 120), R real sectors (P to 240)"
 abbrev pub fileFits : File → Bool

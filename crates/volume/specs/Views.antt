@@ -1,10 +1,10 @@
 -- All that the calls look at, and what they change in it, by meaning.
-use mathlib.Core.Bool.{Bool, _&&_}
+use mathlib.Core.Bool.{_&&_}
 use mathlib.Core.List.{List, [], _∷_}
 use Prim.Native.Nat.{ℕ}
 use lib.Dec.{eqb}
 use Rattle.sector.specs.Lists.{if_then_else_}
-use Rattle.sector.specs.Contents.{Bytes, Table, Entry, Record, Header}
+use Rattle.sector.specs.Contents.{Bytes, Table, Record, Header}
 use Rattle.volume.specs.Places.{Place, recordPlace, headerPlace, slotPlace}
 
 -- The table, record k, header f and the bytes of slot r of file f. A number that names nothing has an empty one.
@@ -16,16 +16,6 @@ pub record View : Type 0 where
 
 abbrev pub noHeader : Header
 noHeader = record { holder = 0; map = [] }
-
--- The entry is for file f; for page p of f; gives slot r of f.
-abbrev pub forFile : ℕ → Entry → Bool
-forFile f e = eqb (e .file) f
-
-abbrev pub forPage : ℕ → ℕ → Entry → Bool
-forPage f p e = eqb (e .file) f && eqb (e .page) p
-
-abbrev pub givesSlot : ℕ → ℕ → Entry → Bool
-givesSlot f r e = eqb (e .file) f && eqb (e .slot) r
 
 -- A store by its meaning: the record of a client, the header of a file, or a slot's bytes become these.
 pub data Update : Type 0 where
