@@ -27,6 +27,7 @@ abbrev pub ReadAgrees : Volume → Model → ℕ → ℕ → ℕ → ReadAnswer 
 ReadAgrees v m k f p (found n) = (sector v n ≡ shown m k f p) × (partOf v (found n) ≡ shown m k f p)
 ReadAgrees v m k f p (readRefused n) = Unit {0}
 
+-- What is asked of a step: of a read, that it agrees; of a call, nothing by itself.
 abbrev pub StepAgrees : Run → Step → Type 0
 StepAgrees r (calls crash c budget) = Unit {0}
 StepAgrees r (reads crash k f p) = ReadAgrees (r .volume) (r .model) k f p (read (r .volume) (given crash (r .session)) k f p)

@@ -15,6 +15,7 @@ use Rattle.rules.specs.Plans.{Call, begin, openFile, write, commit, abort}
 abbrev pub Pending : Type 0
 Pending = ℕ → ℕ → Option Bytes
 
+-- An empty slip.
 abbrev pub noPending : Pending
 noPending f p = none
 
@@ -27,11 +28,12 @@ pub record Model : Type 0 where
 abbrev pub newModel : Model
 newModel = record { pages = λ f p. replicate 256 0; pending = λ k. noPending }
 
--- The pages with those that are pending in their place.
+-- The pending bytes if there are some, else these.
 abbrev pub orElse : Option Bytes → Bytes → Bytes
 orElse none d = d
 orElse (some x) d = x
 
+-- The pages with those that are pending in their place.
 abbrev pub overlaid : Pending → (ℕ → ℕ → Bytes) → ℕ → ℕ → Bytes
 overlaid l pages f p = orElse (l f p) (pages f p)
 
@@ -55,6 +57,7 @@ withPage f p d l = λ g q. if eqb g f && eqb q p then some d else l g q
 abbrev pub committed : Model → ℕ → Model
 committed m k = withPending (record { pages = overlaid (m .pending k) (m .pages); pending = m .pending }) k noPending
 
+-- The call answered done.
 abbrev pub isDone : Answer → Bool
 isDone (done n) = true
 isDone (crashed n) = false

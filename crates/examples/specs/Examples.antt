@@ -12,6 +12,7 @@ use Rattle.examples.specs.Scripts.{Fact, answers, finds, holds, decides,
 abbrev pub page : ℕ → Bytes
 page x = replicate 256 x
 
+-- A page as formatted.
 abbrev pub zeros : Bytes
 zeros = page 0
 
@@ -161,6 +162,7 @@ pub record Example : Type 0 where
   pub fromE2 : Bool
   pub script : List Fact
 
+-- The table: E1 to E10.
 abbrev pub examples : List Example
 examples =
     record { fromE2 = false; script = e1 }

@@ -40,6 +40,7 @@ pub record Row : Type 0 where
 abbrev pub onSmall : List Fact → Row
 onSmall fs = record { volume = small; session = newSession; script = fs }
 
+-- The call is done with so many stores; the call is refused by the number.
 abbrev pub does : Call → (stores : ℕ) → Fact
 does c n = answers c 255 (done n)
 
@@ -57,6 +58,7 @@ full = updated (format (blank 62208) 1 (70 ∷ 240 ∷ []) .volume)
     ∷ setHeader 1 (record { holder = 1; map = from 0 70 })
     ∷ [])
 
+-- The table: refusals 1 to 12, and the one for refusal 2's third condition.
 abbrev pub rows : List Row
 rows =
     -- 1: "V with its first byte 00"
@@ -94,6 +96,7 @@ pub record FormatRow : Type 0 where
   pub shape : Bytes
   pub refusal : ℕ
 
+-- The table: refusals 13 to 15.
 abbrev pub formatRows : List FormatRow
 formatRows =
     -- 13: "300 bytes"
@@ -104,10 +107,12 @@ formatRows =
     ∷ record { bytes = 2560; clients = 2; shape = smallShape; refusal = 15 }
     ∷ []
 
+-- Format is refused by the number.
 abbrev pub isFormatRefused : FormatAnswer → ℕ → Bool
 isFormatRefused formatDone n = false
 isFormatRefused (formatRefused m) n = eqb m n
 
+-- A row's script holds from its start.
 abbrev pub rowHolds : Row → Bool
 rowHolds x = played (record { volume = x .volume; session = x .session; model = newModel }) (x .script)
 

@@ -34,6 +34,7 @@ pub data Fact : Type 0 where
   -- the listing program prints this
   prints : Bytes → Fact
 
+-- Two answers are the same; a read found this sector; a read is refused by this number.
 abbrev pub sameAnswer : Answer → Answer → Bool
 sameAnswer (done m) (done n) = eqb m n
 sameAnswer (done m) (crashed n) = false
@@ -82,7 +83,7 @@ ended r (decides f p d ∷ fs) = ended r fs
 ended r (prints d ∷ fs) = ended r fs
 
 -- The array before it is formatted.
-abbrev pub blank : (sectors : ℕ) → Volume
+abbrev pub blank : (bytes : ℕ) → Volume
 blank n = replicate n 0xEE
 
 -- V, "the small volume: N = 11, T = 2, file 1 (P 2, R 3), file 2 (P 1, R 3)"

@@ -50,10 +50,12 @@ answerOf (Outcome.Done n) = done n
 answerOf (Outcome.Crashed n) = crashed n
 answerOf (Outcome.Refused r) = refused (refusalNumber r)
 
+-- Each case of a read's outcome.
 abbrev pub readAnswerOf : ReadOutcome → ReadAnswer
 readAnswerOf (ReadOutcome.Sector n) = found n
 readAnswerOf (ReadOutcome.Refused r) = readRefused (refusalNumber r)
 
+-- Each case of a format's outcome.
 abbrev pub formatAnswerOf : FormatOutcome → FormatAnswer
 formatAnswerOf FormatOutcome.Done = formatDone
 formatAnswerOf (FormatOutcome.Refused r) = formatRefused (refusalNumber r)

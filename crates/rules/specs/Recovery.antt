@@ -9,6 +9,7 @@ use Rattle.sector.specs.Entries.{redone}
 use Rattle.volume.specs.Places.{fileNumbers}
 use Rattle.volume.specs.Views.{View, Update, setRecord, setHeader}
 
+-- Record k is decided.
 abbrev pub isDecided : View → ℕ → Bool
 isDecided a k = eqb (a .records k .state) 2
 

@@ -11,6 +11,7 @@ use Rattle.volume.specs.Views.{View}
 use Rattle.volume.specs.Volumes.{view}
 use Rattle.volume.specs.Sound.{sound}
 
+-- A digit in ASCII.
 abbrev pub digit : ℕ → ℕ
 digit n = 48 + n
 

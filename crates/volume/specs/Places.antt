@@ -10,6 +10,7 @@ use Rattle.sector.specs.Contents.{File, Table}
 abbrev pub isClient : Table → ℕ → Bool
 isClient t k = between 1 k (t .clients)
 
+-- All clients, rising.
 abbrev pub clientNumbers : Table → List ℕ
 clientNumbers t = from 1 (t .clients)
 
@@ -17,6 +18,7 @@ clientNumbers t = from 1 (t .clients)
 abbrev pub isFile : Table → ℕ → Bool
 isFile t f = between 1 f (length (t .files))
 
+-- All files, "rising by file".
 abbrev pub fileNumbers : Table → List ℕ
 fileNumbers t = from 1 (length (t .files))
 

@@ -14,9 +14,11 @@ use Rattle.volume.specs.Places.{clientNumbers, fileNumbers, fileAt, Plac
 use Rattle.volume.specs.Lawful.{lawful}
 use Rattle.volume.specs.Volumes.{tableOf, bytesAt, view}
 
+-- The sector is an intentions record's encoding.
 abbrev pub isRecordEncoding : Bytes → Bool
 isRecordEncoding d = same d (encodeRecord (decodeRecord d))
 
+-- The sector is the encoding of a header of this file.
 abbrev pub isHeaderEncoding : File → Bytes → Bool
 isHeaderEncoding x d = same d (encodeHeader x (decodeHeader x d))
 
