@@ -1,2 +1,3 @@
 pub mod SectorLaws
 pub mod CodecLaws
+pub mod ListLaws

@@ -1,0 +1,4 @@
+pub mod PlaceLaws
+pub mod ViewLaws
+pub mod StoreLaws
+pub mod AccessLaws
