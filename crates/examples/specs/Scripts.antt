@@ -9,15 +9,16 @@ use Rattle.interface.specs.Answers.{Answer, done, crashed, refused, ReadAnswer,
 use Rattle.sector.specs.Lists.{same}
 use Rattle.sector.specs.Contents.{Bytes}
 use Rattle.sector.specs.Sectors.{Volume, sector, padded}
-use Rattle.volume.specs.Views.{View}
-use Rattle.volume.specs.Volumes.{view}
+use Rattle.volume.specs.Views.{View, Update}
+use Rattle.volume.specs.Volumes.{tableOf, view}
+use Rattle.volume.specs.Stores.{stored, allStores}
 use Rattle.volume.specs.Format.{format}
 use Rattle.volume.specs.Listing.{printed}
 use Rattle.rules.specs.Content.{decidedContent}
 use Rattle.rules.specs.Plans.{Call}
 use Rattle.rules.specs.Calls.{After, call, read, partOf}
-use Rattle.atomicity.specs.Model.{Model, modelCall, shown}
-use Rattle.atomicity.specs.Runs.{Run}
+use Rattle.atomicity.specs.Model.{Model, shown}
+use Rattle.atomicity.specs.Runs.{Run, after, called}
 
 -- What an example says at a place of its script.
 pub data Fact : Type 0 where
@@ -28,7 +29,7 @@ pub data Fact : Type 0 where
   -- the read is refused by this number
   readRefuses : (client : ℕ) → (file : ℕ) → (page : ℕ) → ℕ → Fact
   -- the sector has these bytes, and zeros after them
-  holds : (sector : ℕ) → Bytes → Fact
+  sectorIs : (sector : ℕ) → Bytes → Fact
   -- the decided content of the page, and the model's page, are these bytes
   decides : (file : ℕ) → (page : ℕ) → Bytes → Fact
   -- the listing program prints this
@@ -54,31 +55,27 @@ abbrev pub isReadRefused : ReadAnswer → ℕ → Bool
 isReadRefused (found m) n = false
 isReadRefused (readRefused m) n = eqb m n
 
--- The run after a call that is given the session last handed back, and left so much.
-abbrev pub continued : Run → Call → After → Run
-continued r c x = record { volume = x .volume; session = x .session; model = modelCall (r .model) (r .session) c (x .answer) }
-
 -- The script is played from this run, and every fact holds.
 unfoldable pub played : Run → List Fact → Bool
 played r [] = true
 played r (answers c budget x ∷ fs) =
     let y = call (r .volume) (r .session) c budget in
-    sameAnswer (y .answer) x && played (continued r c y) fs
+    sameAnswer (y .answer) x && played (after r (r .session) c y) fs
 played r (finds k f p n d ∷ fs) =
     let y = read (r .volume) (r .session) k f p in
     isFound y n && same (partOf (r .volume) y) d && same (shown (r .model) k f p) d && played r fs
 played r (readRefuses k f p n ∷ fs) = isReadRefused (read (r .volume) (r .session) k f p) n && played r fs
-played r (holds n d ∷ fs) = same (sector (r .volume) n) (padded d) && played r fs
+played r (sectorIs n d ∷ fs) = same (sector (r .volume) n) (padded d) && played r fs
 played r (decides f p d ∷ fs) = same (decidedContent (view (r .volume)) f p) d && same (r .model .pages f p) d && played r fs
 played r (prints d ∷ fs) = same (printed (r .volume)) d && played r fs
 
 -- The run at the end of a script.
 unfoldable pub ended : Run → List Fact → Run
 ended r [] = r
-ended r (answers c budget x ∷ fs) = ended (continued r c (call (r .volume) (r .session) c budget)) fs
+ended r (answers c budget x ∷ fs) = ended (called r (r .session) c budget) fs
 ended r (finds k f p n d ∷ fs) = ended r fs
 ended r (readRefuses k f p n ∷ fs) = ended r fs
-ended r (holds n d ∷ fs) = ended r fs
+ended r (sectorIs n d ∷ fs) = ended r fs
 ended r (decides f p d ∷ fs) = ended r fs
 ended r (prints d ∷ fs) = ended r fs
 
@@ -92,3 +89,7 @@ smallShape = 2 ∷ 3 ∷ 1 ∷ 3 ∷ []
 
 abbrev pub small : Volume
 small = format (blank 2816) 2 smallShape .volume
+
+-- A volume with these updates made by hand.
+abbrev pub updated : Volume → List Update → Volume
+updated v xs = stored v (allStores (tableOf v) xs)
