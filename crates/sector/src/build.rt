@@ -7,11 +7,12 @@ ghost use Prim.Native.Nat.{_≤_, _<_};
 ghost use lib.ListN.{length};
 ghost use Rattle.sector.specs.Contents.{File, Entry, Record, Header, appended};
 ghost use Rattle.sector.specs.Sectors.{zeroSector};
-ghost use Rattle.sector.specs.Entries.{redone, pagesBelow, pagesIn};
+ghost use Rattle.sector.specs.Entries.{redone, pagesBelow, filePagesBelow};
 ghost use Rattle.sector.specs.Encoding.{encodeRecord, encodeHeader};
 ghost use Rattle.sector.specs.Decoding.{countIn, entryIn, decodeRecord};
 ghost use Rattle.sector.specs.Edits.{entryApplied};
 use crate::Sector;
+use crate::write::replace;
 use crate::read::{size, entry_file, entry_page, entry_slot, record_count};
 
 // A working sector of zeros.
@@ -26,11 +27,7 @@ pub fn load(buf: &mut [u8; 256], part: &[u8])
     requires { ⌜ (length (now buf) ≡ 256) × (length (now part) ≡ 256) ⌝ }
     ensures { λ _. ⌜ (now (buf .exit) ≡ now (part .entry)) × (length (now (buf .exit)) ≡ 256) ⌝ }
 {
-    let mut i = 0;
-    while i < Sector::SIZE {
-        buf[i] = part[i];
-        i += 1;
-    }
+    replace(buf, part);
 }
 
 // An intentions record with no entries, made of zeros.
@@ -86,7 +83,7 @@ fn apply_entry(buf: &mut [u8; 256], rec: &[u8], f: u8, i: usize)
 // The record's entries for file f are applied to the header's map, in order.
 pub fn redo_map(buf: &mut [u8; 256], rec: &[u8], f: u8)
     requires { ⌜ (length (now buf) ≡ 256) × (length (now rec) ≡ 256) × (countIn (now rec) ≤ 62) × (pagesBelow 248 (decodeRecord (now rec) .entries) ≡ true) ⌝ }
-    ensures { λ _. ⌜ ((x : File) (h : Header) → now (buf .entry) ≡ encodeHeader x h → pagesIn (h .map) f (decodeRecord (now (rec .entry)) .entries) ≡ true → now (buf .exit) ≡ encodeHeader x (record { holder = h .holder; map = redone f (decodeRecord (now (rec .entry)) .entries) (h .map) })) × (length (now (buf .exit)) ≡ 256) ⌝ }
+    ensures { λ _. ⌜ ((x : File) (h : Header) → now (buf .entry) ≡ encodeHeader x h → filePagesBelow f (length (h .map)) (decodeRecord (now (rec .entry)) .entries) ≡ true → now (buf .exit) ≡ encodeHeader x (record { holder = h .holder; map = redone f (decodeRecord (now (rec .entry)) .entries) (h .map) })) × (length (now (buf .exit)) ≡ 256) ⌝ }
 {
     let n = size(record_count(rec));
     let mut i = 0;

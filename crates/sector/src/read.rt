@@ -5,14 +5,15 @@ ghost use lib.ListN.{length};
 ghost use Rattle.sector.specs.Contents.{File, Entry};
 ghost use Rattle.sector.specs.Sectors.{sector, word};
 ghost use Rattle.sector.specs.Decoding.{sectorsIn, clientsIn, fileCountIn, headerSectorIn, fileIn, stateIn, countIn, entryIn, holderIn, mapIn};
+use crate::Sector;
 
 // Sector s of the volume.
 pub fn part(v: &[u8], s: usize) -> &[u8]
     requires { ⌜ (256 * s + 256 ≤ length (now v)) × (s ≤ 65536) ⌝ }
     ensures { λ r. ⌜ (now r ≡ sector (now (v .entry)) s) × (length (now r) ≡ 256) ⌝ }
 {
-    let at = 256 * s;
-    let e = at + 256;
+    let at = Sector::SIZE * s;
+    let e = at + Sector::SIZE;
     &v[at..e]
 }
 
