@@ -11,7 +11,7 @@ use lib.Seq.{take-at, getD-take, getD-drop, drop-drop}
 use Rattle.sector.specs.Contents.{Bytes, File, Table, Entry, Record, Header}
 use Rattle.sector.specs.Sectors.{byte, padded}
 use Rattle.sector.specs.Encoding.{fileBytes, encodeTable, entryBytes, encodeRecord, encodeHeader}
-use Rattle.sector.specs.Decoding.{fileIn, decodeFiles, decodeTable, entryIn, decodeEntries, decodeRecord, mapIn, decodeHeader}
+use Rattle.sector.specs.Decoding.{fileIn, decodeFiles, decodeTable, countIn, entryIn, decodeEntries, decodeRecord, mapIn, decodeHeader}
 
 pub padded-length : (l : Bytes) → length l ≤ 256 → length (padded l) ≡ 256
 unfolding padded
@@ -98,6 +98,14 @@ entry-from (suc n) d a (suc i) z h =
 
 pub entry-at : (n : ℕ) (d : Bytes) (i : ℕ) (z : Entry) → i < n → getD (decodeEntries n (drop 8 d)) i z ≡ entryIn d i
 entry-at n d i z h = entry-from n d 8 i z h
+
+pub decoded-count : (d : Bytes) → length (decodeRecord d .entries) ≡ countIn d
+unfolding decodeRecord
+decoded-count d = decode-entries-length (countIn d) (drop 8 d)
+
+pub decoded-entry : (d : Bytes) (i : ℕ) (z : Entry) → i < countIn d → getD (decodeRecord d .entries) i z ≡ entryIn d i
+unfolding decodeRecord
+decoded-entry d i z h = entry-at (countIn d) d i z h
 
 -- ------------------------------------------------------------------ a file header
 pub header-back : (x : File) (h : Header) → length (h .map) ≡ x .pages → decodeHeader x (encodeHeader x h) ≡ h

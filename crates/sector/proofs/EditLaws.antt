@@ -2,14 +2,14 @@
 -- entry by the part of the list that they stand in; the entries of a record by induction.
 use mathlib.Core.Path.{_≡_, refl, ap, sym, _∙_}
 use mathlib.Core.Bool.{Bool, true, false, not, _||_}
-use mathlib.Core.List.{List, [], _∷_, _++_, append-assoc}
+use mathlib.Core.List.{List, [], _∷_, _++_}
 use Prim.Native.Nat.{ℕ, suc, _+_, _*_, _-_, _<_, _≤_}
 use native.Mathlib.Numerals.{add-one}
 use native.Mathlib.Omega.{arith}
 use borrow.Author.Tests.{ltb-true}
 use lib.Dec.{ltb}
 use lib.Seq.{set-append-left, drop-cons}
-use lib.ListN.{length, take, drop, getD, set, replicate, length-append, length-set, length-replicate, drop-of-length-le}
+use lib.ListN.{length, drop, getD, set, replicate, length-append, length-set, drop-of-length-le}
 use Rattle.sector.specs.Lists.{if_then_else_, every}
 use Rattle.sector.specs.Contents.{Bytes, File, Entry, Record, Header, appended}
 use Rattle.sector.specs.Sectors.{zeroSector, padded}
@@ -18,13 +18,9 @@ use Rattle.sector.specs.Encoding.{entryBytes, encodeRecord, encodeHeader
 use Rattle.sector.specs.Decoding.{countIn, entryIn, decodeRecord}
 use Rattle.sector.specs.Edits.{entryApplied, entriesApplied}
 use Rattle.sector.proofs.ListLaws.{and-left, and-right, every-at}
-use Rattle.sector.proofs.CodecLaws.{entries-length, decode-entries-length, entry-at}
+use Rattle.sector.proofs.CodecLaws.{entries-length, decoded-count, decoded-entry}
 
 -- ------------------------------------------------------------------ an intentions record
-pub zero-length : length zeroSector ≡ 256
-unfolding zeroSector
-zero-length = refl
-
 pub record-empty : (x : ℕ) → set (set (set zeroSector 0 0x4B) 1 0x49) 2 x ≡ encodeRecord (record { state = x; entries = [] })
 unfolding zeroSector encodeRecord entryBytes padded
 record-empty x = refl
@@ -60,21 +56,22 @@ pub record-appended : (r : Record) (e : Entry) (n : ℕ) → n ≡ length (r .en
 unfolding encodeRecord padded
 record-appended r e n q few =
     let es : List Entry = r .entries in
-    let p : Bytes = 0x4B ∷ 0x49 ∷ r .state ∷ (n + 1) ∷ 0 ∷ 0 ∷ 0 ∷ 0 ∷ entryBytes es in
-    let lp : length p ≡ 8 + 4 * n = omega (arith, entries-length es) in
+    let more : List Entry = es ++ (e ∷ []) in
+    let one : length more ≡ n + 1 = omega (arith, length-append es (e ∷ [])) in
+    let front : Bytes → Bytes = λ l. 0x4B ∷ 0x49 ∷ r .state ∷ (n + 1) ∷ 0 ∷ 0 ∷ 0 ∷ 0 ∷ l in
+    let used : length (front (entryBytes es)) ≡ 8 + 4 * n = omega (arith, entries-length es) in
     let m : ℕ = 256 - (8 + 4 * n + 4) in
-    let z : 256 - length p ≡ suc (suc (suc (suc m))) = omega arith in
-    let one : length (es ++ (e ∷ [])) ≡ n + 1 = omega (arith, length-append es (e ∷ [])) in
-    let z2 : 256 - suc (suc (suc (suc (suc (suc (suc (suc (length (entryBytes (es ++ (e ∷ [])))))))))))  ≡ m = omega (arith, entries-length (es ++ (e ∷ []))) in
-    rw (z, z2, one) (three-from p (8 + 4 * n) (e .file) (e .page) (e .slot) (0 ∷ replicate m 0) lp
-    ∙ ap (λ (l : Bytes). 0x4B ∷ 0x49 ∷ r .state ∷ (n + 1) ∷ 0 ∷ 0 ∷ 0 ∷ 0 ∷ l) (sym (entries-end es e (replicate m 0))))
+    let zeros : 256 - length (front (entryBytes es)) ≡ suc (suc (suc (suc m))) = omega arith in
+    let left : 256 - length (front (entryBytes more)) ≡ m = omega (arith, entries-length more) in
+    rw (zeros, left, one) (three-from (front (entryBytes es)) (8 + 4 * n) (e .file) (e .page) (e .slot) (0 ∷ replicate m 0) used
+    ∙ ap front (sym (entries-end es e (replicate m 0))))
 
 -- ------------------------------------------------------------------ a file header
 pub header-holder : (x : File) (h : Header) (k : ℕ) → set (encodeHeader x h) 2 k ≡ encodeHeader x (record { holder = k; map = h .map })
 unfolding encodeHeader padded
 header-holder x h k = refl
 
-pub header-map : (x : File) (h : Header) (p s : ℕ) → p < length (h .map)
+header-map : (x : File) (h : Header) (p s : ℕ) → p < length (h .map)
     → set (encodeHeader x h) (8 + p) s ≡ encodeHeader x (record { holder = h .holder; map = set (h .map) p s })
 unfolding encodeHeader padded
 header-map x h p s l =
@@ -103,18 +100,17 @@ header-redone x f (e ∷ es) h n size low =
 -- ------------------------------------------------------------------ the loop over a record's entries
 -- Those from index i on.
 entries-from : (d : Bytes) (i : ℕ) → i < countIn d → drop i (decodeRecord d .entries) ≡ entryIn d i ∷ drop (i + 1) (decodeRecord d .entries)
-unfolding decodeRecord
 entries-from d i h =
-    let l : i < length (decodeRecord d .entries) = rw (decode-entries-length (countIn d) (drop 8 d)) h in
-    rw (add-one i) (drop-cons (decodeRecord d .entries) i (entryIn d i) l
-    ∙ ap (λ (e : Entry). e ∷ drop (suc i) (decodeRecord d .entries)) (entry-at (countIn d) d i (entryIn d i) h))
+    let es : List Entry = decodeRecord d .entries in
+    let l : i < length es = rw (decoded-count d) h in
+    rw (add-one i) (drop-cons es i (entryIn d i) l ∙ ap (λ (e : Entry). e ∷ drop (suc i) es) (decoded-entry d i (entryIn d i) h))
 
 pub entry-page : (d : Bytes) (n i : ℕ) → i < countIn d → pagesBelow n (decodeRecord d .entries) ≡ true → entryIn d i .page < n
-unfolding decodeRecord
 entry-page d n i h low =
-    let l : i < length (decodeRecord d .entries) = rw (decode-entries-length (countIn d) (drop 8 d)) h in
-    let t : ltb (getD (decodeRecord d .entries) i (entryIn d i) .page) n ≡ true = every-at (λ (e : Entry). ltb (e .page) n) (decodeRecord d .entries) i (entryIn d i) l low in
-    ltb-true (entryIn d i .page) n (rw (entry-at (countIn d) d i (entryIn d i) h) at t)
+    let es : List Entry = decodeRecord d .entries in
+    let l : i < length es = rw (decoded-count d) h in
+    let t : ltb (getD es i (entryIn d i) .page) n ≡ true = every-at (λ (e : Entry). ltb (e .page) n) es i (entryIn d i) l low in
+    ltb-true (entryIn d i .page) n (rw (decoded-entry d i (entryIn d i) h) at t)
 
 pub redo-turn : (d : Bytes) (f i : ℕ) (buf : Bytes) → i < countIn d
     → entriesApplied f (drop (i + 1) (decodeRecord d .entries)) (entryApplied f (entryIn d i) buf) ≡ entriesApplied f (drop i (decodeRecord d .entries)) buf
@@ -122,7 +118,7 @@ unfolding entriesApplied
 redo-turn d f i buf h = rw (entries-from d i h)
 
 pub redo-end : (d : Bytes) (f i : ℕ) (buf : Bytes) → countIn d ≤ i → entriesApplied f (drop i (decodeRecord d .entries)) buf ≡ buf
-unfolding entriesApplied decodeRecord
+unfolding entriesApplied
 redo-end d f i buf h =
-    let z : drop i (decodeRecord d .entries) ≡ [] = drop-of-length-le (decodeRecord d .entries) {i = i} (rw (decode-entries-length (countIn d) (drop 8 d)) h) in
+    let z : drop i (decodeRecord d .entries) ≡ [] = drop-of-length-le (decodeRecord d .entries) {i = i} (rw (decoded-count d) h) in
     rw z

@@ -2,7 +2,6 @@
 ghost use mathlib.Core.Path.{_≡_};
 ghost use Prim.Native.Nat.{_+_, _*_, _≤_, _<_};
 ghost use lib.ListN.{length};
-ghost use Rattle.sector.specs.Contents.{File, Entry};
 ghost use Rattle.sector.specs.Sectors.{sector, word};
 ghost use Rattle.sector.specs.Decoding.{sectorsIn, clientsIn, fileCountIn, headerSectorIn, fileIn, stateIn, countIn, entryIn, holderIn, mapIn};
 use crate::Sector;

@@ -1,21 +1,13 @@
-use Rattle.sector.proofs.EditLaws.{header-holder}
+-- `set_holder` meets its contract, by the law of a stored holder.
 use borrow.Author.Needs.{needs}
-use native.Mathlib.Omega.{arith}
-use Prim.Native.Nat.{ℕ, suc, _+_, _*_, _-_, _≤_, _<_}
-use mathlib.Core.Path.{_≡_, refl, sym, ap, _∙_}
-use mathlib.Core.List.{List, [], _∷_, _++_}
-use mathlib.Core.Logic.{⊎-elim}
-use lib.ListN.{length, take, drop, getD, set, length-set}
+use lib.ListN.{length-set}
+use Rattle.sector.proofs.EditLaws.{header-holder}
 use Rattle.sector.proofs.build.set_holder.Statement.{statement}
 use Rattle.sector.proofs.build.set_holder.Tie as tie
-use Rattle.sector.proofs.build.set_holder.Reads as reads
-use Rattle.sector.proofs.build.set_holder.Lts as lts
 
--- src/build.rt:69:5
 element-write-buf : tie.Need-element-write-buf
 element-write-buf c = search needs
 
--- src/build.rt:65:1
 returns : tie.Need-returns
 returns c = (λ x h q. rw q (header-holder x h (c .args .k)), simp length-set (c .pre))
 
