@@ -7,7 +7,7 @@ use lib.Dec.{eqb}
 use lib.ListN.{getD}
 use Rattle.interface.specs.declared.Session.{Session}
 use Rattle.sector.specs.Lists.{if_then_else_, any, filter, find, member, from}
-use Rattle.sector.specs.Contents.{Bytes, File, Entry, Record, Header, openRecord, decidedRecord}
+use Rattle.sector.specs.Contents.{Bytes, File, Entry, Record, Header, openRecord, decidedRecord, appended}
 use Rattle.sector.specs.Entries.{forPage, givesSlot}
 use Rattle.volume.specs.Places.{fileAt}
 use Rattle.volume.specs.Views.{View, Update, setRecord, setHeader, setSlot}
@@ -56,10 +56,6 @@ openPlan a k f =
     if eqb holder k then []
     else if eqb holder 0 then setHeader f (record { holder = k; map = a .headers f .map }) ∷ []
     else recovery redo a holder ++ (setHeader f (record { holder = k; map = mapAfter redo a holder f }) ∷ [])
-
--- Record k "with the entry appended".
-abbrev pub appended : Record → Entry → Record
-appended r e = record { state = r .state; entries = r .entries ++ (e ∷ []) }
 
 -- "if record k has (f, p), store the page in that real sector. Else take the lowest real ..; store the page there; store
 -- record k with the entry appended."

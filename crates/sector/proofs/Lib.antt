@@ -1,3 +1,5 @@
+pub mod ListLaws
 pub mod SectorLaws
 pub mod CodecLaws
-pub mod ListLaws
+pub mod PartLaws
+pub mod EditLaws

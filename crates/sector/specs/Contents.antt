@@ -1,5 +1,5 @@
 -- What the control sectors hold, without its bytes: the table, intentions records and file headers.
-use mathlib.Core.List.{List, []}
+use mathlib.Core.List.{List, [], _∷_, _++_}
 use Prim.Native.Nat.{ℕ}
 
 -- A byte, or a number made of bytes, is a natural number.
@@ -44,3 +44,7 @@ openRecord = record { state = 1; entries = [] }
 -- Commit's record: the same entries, decided.
 abbrev pub decidedRecord : Record → Record
 decidedRecord r = record { state = 2; entries = r .entries }
+
+-- Record k "with the entry appended".
+abbrev pub appended : Record → Entry → Record
+appended r e = record { state = r .state; entries = r .entries ++ (e ∷ []) }

@@ -27,3 +27,7 @@ word d i = byte d i + 256 * byte d (i + 1)
 -- "A control sector's bytes not named here are 00."
 unfoldable pub padded : Bytes → Bytes
 padded l = l ++ replicate (256 - length l) 0
+
+-- A sector of zeros.
+unfoldable pub zeroSector : Bytes
+zeroSector = replicate 256 0
