@@ -16,7 +16,7 @@ use Rattle.rules.specs.Calls.{read, partOf}
 use Rattle.atomicity.specs.Model.{Model, shown}
 use Rattle.atomicity.specs.Runs.{Step, calls, reads, Run, started, given, stepped}
 
--- "the decided content of every file equals the plain book's"
+-- "Demand 3 sets decided content .. against the book": every page of every file is the model's.
 abbrev pub ContentAgrees : Run → Type 0
 ContentAgrees r =
     (f p : ℕ) → 1 ≤ f → f ≤ length (view (r .volume) .table .files) → p < fileAt (view (r .volume) .table) f .pages
@@ -37,7 +37,7 @@ abbrev pub Agrees : Run → List Step → Type 0
 Agrees r [] = ContentAgrees r
 Agrees r (x ∷ xs) = ContentAgrees r × StepAgrees r x × Agrees (stepped r x) xs
 
--- For every list of calls "on a volume laid out once": "One theorem about the whole list."
+-- For every volume as format left it, and every list of calls: "a single claim about the whole list, not one for each call".
 abbrev pub AllOrNone : Type 0
 AllOrNone =
     (v : Volume) (T : ℕ) (l : Bytes) → format v T l .answer ≡ formatDone

@@ -48,7 +48,8 @@ unfoldable pub beginPlan : View → Session → ℕ → List Update
 beginPlan a s k = (if isOrphaned a s k then recovery (isDecided a k) a k else []) ++ (setRecord k openRecord ∷ [])
 
 -- "if k holds f, nothing. Else if an interrupted kiln holds f, recover that kiln; then store f's header with holder k." The
--- map stored is the one after that recovery. A holder that isn't interrupted is refused before.
+-- map stored is the one after that recovery. Another holder is interrupted: one that is marked is refused by 7, and one
+-- whose record is idle by 1.
 unfoldable pub openPlan : View → ℕ → ℕ → List Update
 openPlan a k f =
     let holder = a .headers f .holder in

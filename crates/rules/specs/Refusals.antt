@@ -1,7 +1,6 @@
 -- Refusals 1 to 12: each call's list of (number, condition), read downwards. "The lowest number that applies is given".
 use mathlib.Core.Bool.{Bool, not, _&&_}
-use mathlib.Core.List.{List, [], _∷_, _++_}
-use mathlib.Core.Option.{Option}
+use mathlib.Core.List.{List, [], _∷_}
 use Prim.Native.Nat.{ℕ}
 use lib.Dec.{eqb, ltb}
 use lib.ListN.{length}
@@ -10,12 +9,8 @@ use Rattle.sector.specs.Lists.{isSome}
 use Rattle.sector.specs.Contents.{File, Entry, Record, Header}
 use Rattle.volume.specs.Places.{isClient, isFile, fileAt}
 use Rattle.volume.specs.Views.{View}
-use Rattle.rules.specs.Sessions.{isActive, sessionFits}
+use Rattle.rules.specs.Sessions.{isActive, holds, sessionFits}
 use Rattle.rules.specs.Plans.{Call, begin, openFile, write, commit, abort, entryFor, freeSlots}
-
--- "k holds f"
-abbrev pub holds : View → ℕ → ℕ → Bool
-holds a k f = eqb (a .headers f .holder) k
 
 -- "another marked kiln holds f"
 abbrev pub heldByOther : View → Session → ℕ → ℕ → Bool

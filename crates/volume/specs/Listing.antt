@@ -1,7 +1,7 @@
 -- The text of the listing program, in ASCII.
 use mathlib.Core.List.{List, [], _∷_, _++_}
 use Prim.Native.Nat.{ℕ, _+_, _/_, _%_}
-use lib.Dec.{eqb, ltb, leb}
+use lib.Dec.{eqb, ltb}
 use lib.ListN.{length}
 use Rattle.sector.specs.Lists.{if_then_else_}
 use Rattle.sector.specs.Contents.{Bytes, File, Record, Header}
@@ -29,20 +29,23 @@ stateWord s =
     else if eqb s 1 then 0x6F ∷ 0x70 ∷ 0x65 ∷ 0x6E ∷ []
     else 0x64 ∷ 0x65 ∷ 0x63 ∷ 0x69 ∷ 0x64 ∷ 0x65 ∷ 0x64 ∷ []
 
--- `kiln `, `file `, ` kiln `, ` pages `, ` sectors `
+-- `kiln `
 abbrev pub kilnText : Bytes
 kilnText = 0x6B ∷ 0x69 ∷ 0x6C ∷ 0x6E ∷ 0x20 ∷ []
 
+-- `file `
 abbrev pub fileText : Bytes
 fileText = 0x66 ∷ 0x69 ∷ 0x6C ∷ 0x65 ∷ 0x20 ∷ []
 
+-- ` pages `
 abbrev pub pagesText : Bytes
 pagesText = 0x20 ∷ 0x70 ∷ 0x61 ∷ 0x67 ∷ 0x65 ∷ 0x73 ∷ 0x20 ∷ []
 
+-- ` sectors `
 abbrev pub sectorsText : Bytes
 sectorsText = 0x20 ∷ 0x73 ∷ 0x65 ∷ 0x63 ∷ 0x74 ∷ 0x6F ∷ 0x72 ∷ 0x73 ∷ 0x20 ∷ []
 
--- `kiln 1 decided 2`: "kiln, state word, C".
+-- `kiln 1 decided 2`: "kiln, state word (idle, open, decided), C".
 unfoldable pub clientLine : ℕ → Record → Bytes
 clientLine k r = kilnText ++ (decimal k ++ (0x20 ∷ (stateWord (r .state) ++ (0x20 ∷ (decimal (length (r .entries)) ++ (0x0A ∷ []))))))
 
@@ -63,10 +66,11 @@ listing a =
     lines (λ k. clientLine k (a .records k)) (clientNumbers (a .table))
     ++ lines (λ f. fileLine f (a .headers f) (fileAt (a .table) f)) (fileNumbers (a .table))
 
--- `not sound`, `too long`
+-- `not sound`
 abbrev pub notSoundText : Bytes
 notSoundText = 0x6E ∷ 0x6F ∷ 0x74 ∷ 0x20 ∷ 0x73 ∷ 0x6F ∷ 0x75 ∷ 0x6E ∷ 0x64 ∷ 0x0A ∷ []
 
+-- `too long`
 abbrev pub tooLongText : Bytes
 tooLongText = 0x74 ∷ 0x6F ∷ 0x6F ∷ 0x20 ∷ 0x6C ∷ 0x6F ∷ 0x6E ∷ 0x67 ∷ 0x0A ∷ []
 

@@ -1,10 +1,11 @@
--- Where everything lies. Nothing else computes a sector number.
+-- Where everything lies: the sector of each place. The table has each header's sector too, and `TableLaws` says that it is
+-- this one.
 use mathlib.Core.Bool.{Bool}
 use mathlib.Core.List.{List, [], _∷_}
 use Prim.Native.Nat.{ℕ, _+_, _-_}
 use lib.ListN.{length, getD, take}
 use Rattle.sector.specs.Lists.{between, from}
-use Rattle.sector.specs.Contents.{File, Table}
+use Rattle.sector.specs.Contents.{File, Table, firstHeader, nextHeader}
 
 -- Clients are "1 to T".
 abbrev pub isClient : Table → ℕ → Bool
@@ -30,19 +31,18 @@ noFile = record { pages = 0; slots = 0 }
 abbrev pub fileAt : Table → ℕ → File
 fileAt t f = getD (t .files) (f - 1) noFile
 
--- The sector after these files, if the first one's header is sector h: "each next header follows the previous file's last
--- real sector".
+-- The sector after these files, if the first one's header is sector h.
 unfoldable pub sectorAfter : ℕ → List File → ℕ
 sectorAfter h [] = h
-sectorAfter h (x ∷ xs) = sectorAfter (h + 1 + x .slots) xs
+sectorAfter h (x ∷ xs) = sectorAfter (nextHeader h x) xs
 
--- "File 1's header is sector T + 1".
+-- The header of file f.
 abbrev pub headerSector : Table → ℕ → ℕ
-headerSector t f = sectorAfter (t .clients + 1) (take (f - 1) (t .files))
+headerSector t f = sectorAfter (firstHeader (t .clients)) (take (f - 1) (t .files))
 
--- The first of the "later sectors": where "all ends".
+-- The first of the "Later sectors": where "All ends".
 abbrev pub endSector : Table → ℕ
-endSector t = sectorAfter (t .clients + 1) (t .files)
+endSector t = sectorAfter (firstHeader (t .clients)) (t .files)
 
 -- What a sector is for.
 pub data Place : Type 0 where
