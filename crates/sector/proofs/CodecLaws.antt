@@ -47,6 +47,7 @@ unfolding decodeFiles
 decode-files-length zero l = refl
 decode-files-length (suc n) l = ap suc (decode-files-length n (drop 4 l))
 
+-- The files of a list that starts at byte a, by index.
 file-from : (n : ℕ) (d : Bytes) (a i : ℕ) (z : File) → i < n
     → getD (decodeFiles n (drop a d)) i z ≡ record { pages = byte d (a + 4 * i + 2); slots = byte d (a + 4 * i + 3) }
 unfolding decodeFiles
@@ -85,6 +86,7 @@ unfolding decodeEntries
 decode-entries-length zero l = refl
 decode-entries-length (suc n) l = ap suc (decode-entries-length n (drop 4 l))
 
+-- The entries of a list that starts at byte a, by index.
 entry-from : (n : ℕ) (d : Bytes) (a i : ℕ) (z : Entry) → i < n
     → getD (decodeEntries n (drop a d)) i z ≡ record { file = byte d (a + 4 * i); page = byte d (a + 4 * i + 1); slot = byte d (a + 4 * i + 2) }
 unfolding decodeEntries

@@ -26,7 +26,7 @@ pub fn size(x: u8) -> usize
 // The two-byte number at i.
 fn word_at(d: &[u8], i: usize) -> usize
     requires { ⌜ (length (now d) ≡ 256) × (i < 255) ⌝ }
-    ensures { λ r. ⌜ r ≡ word (now (d .entry)) i ⌝ }
+    ensures { λ r. ⌜ (r ≡ word (now (d .entry)) i) × (r < 65536) ⌝ }
 {
     size(d[i]) + 256 * size(d[i + 1])
 }
@@ -34,7 +34,7 @@ fn word_at(d: &[u8], i: usize) -> usize
 // Sector 0: the sectors of the volume.
 pub fn table_sectors(d: &[u8]) -> usize
     requires { ⌜ length (now d) ≡ 256 ⌝ }
-    ensures { λ r. ⌜ r ≡ sectorsIn (now (d .entry)) ⌝ }
+    ensures { λ r. ⌜ (r ≡ sectorsIn (now (d .entry))) × (r < 65536) ⌝ }
 {
     word_at(d, 2)
 }
@@ -58,7 +58,7 @@ pub fn table_files(d: &[u8]) -> u8
 // The header sector of the file with index i, which counts from 0.
 pub fn file_header(d: &[u8], i: usize) -> usize
     requires { ⌜ (length (now d) ≡ 256) × (i < 62) ⌝ }
-    ensures { λ r. ⌜ r ≡ headerSectorIn (now (d .entry)) i ⌝ }
+    ensures { λ r. ⌜ (r ≡ headerSectorIn (now (d .entry)) i) × (r < 65536) ⌝ }
 {
     word_at(d, 8 + 4 * i)
 }

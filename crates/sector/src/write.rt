@@ -1,4 +1,4 @@
-// The one store.
+// The one store: whatever changes a volume does so by it, a whole sector at a time.
 ghost use mathlib.Core.Path.{_≡_};
 ghost use Prim.Native.Nat.{_+_, _*_, _≤_};
 ghost use lib.ListN.{length};
@@ -17,7 +17,7 @@ pub fn replace(part: &mut [u8], src: &[u8])
     }
 }
 
-// The one store of the product: sector s of the volume becomes src.
+// Sector s of the volume becomes src.
 pub fn store(v: &mut [u8], s: usize, src: &[u8])
     requires { ⌜ (256 * s + 256 ≤ length (now v)) × (s ≤ 65536) × (length (now src) ≡ 256) ⌝ }
     ensures { λ _. ⌜ now (v .exit) ≡ storeAt (now (v .entry)) s (now (src .entry)) ⌝ }
