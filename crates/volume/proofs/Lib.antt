@@ -4,3 +4,4 @@ pub mod StoreLaws
 pub mod AccessLaws
 pub mod TableLaws
 pub mod KnownLaws
+pub mod ReadLaws

@@ -14,13 +14,10 @@ use lib.ListN.{length, getD, take}
 use lib.Seq.{take-length}
 use Rattle.sector.specs.Contents.{File, Table}
 use Rattle.sector.proofs.ListLaws.{and-left, and-right, and-both, between-true, le-between}
+pub use Rattle.volume.specs.Places.{IsFile}
 use Rattle.volume.specs.Places.{isClient, isFile, noFile, fileAt, sectorAfter, headerSector, endSector, Place, tablePlace, recordPlace, headerPlace, slotPlace, sectorOf}
 
 -- The table has a file f.
-pub record IsFile (t : Table) (f : ℕ) : Type 0 where
-  pub low : 1 ≤ f
-  pub high : f ≤ length (t .files)
-
 -- The place is one of the table's.
 abbrev pub Exists : Table → Place → Type 0
 Exists t tablePlace = Unit {0}

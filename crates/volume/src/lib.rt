@@ -1,4 +1,20 @@
-// The volume as a whole: its definitions are in specs/, their laws in proofs/.
+// The volume as a whole: what stands where, and what it holds.
+mod read;
+
+pub use read::clients;
+pub use read::entry_count;
+pub use read::entry_file;
+pub use read::entry_page;
+pub use read::entry_slot;
+pub use read::files;
+pub use read::header;
+pub use read::header_sector;
+pub use read::holder;
+pub use read::mapped_slot;
+pub use read::pages;
+pub use read::record;
+pub use read::slots;
+pub use read::state;
 
 // The limits of a volume.
 pub struct Limits {}

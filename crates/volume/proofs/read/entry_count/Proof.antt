@@ -1,0 +1,22 @@
+-- `entry_count` meets its contract: the byte read is the number of the view's entries.
+use mathlib.Core.Path.{ap, _∙_}
+use borrow.Author.Needs.{needs}
+use Rattle.sector.specs.Decoding.{countIn}
+use Rattle.volume.proofs.ReadLaws.{count-in, few-entries}
+use Rattle.volume.proofs.read.entry_count.Statement.{statement}
+use Rattle.volume.proofs.read.entry_count.Tie as tie
+
+record-requires : tie.Need-record-requires
+record-requires c κs = search needs
+
+record-count-requires : tie.Need-record-count-requires
+record-count-requires c κs = search needs
+
+returns : tie.Need-returns
+returns c =
+    let s = c .before .before .before in
+    let e = c .record-count .ensures ∙ ap countIn (c .before .record .ensures .0) ∙ count-in (s .args .v .now) (s .pre .0) (s .args .k) (s .pre .1) in
+    (e, rw e (few-entries (s .args .v .now) (s .pre .0) (s .args .k) (s .pre .1)))
+
+pub entry-count-spec : {M : Type 1} → statement M
+entry-count-spec = tie.close (tie.spec record-requires record-count-requires returns)
