@@ -14,7 +14,7 @@ use Rattle.volume.specs.Format.{Formatted, format}
 use Rattle.rules.specs.Plans.{Call, begin, openFile, write, commit, abort}
 use Rattle.atomicity.specs.Model.{newModel}
 use Rattle.atomicity.specs.Runs.{Run}
-use Rattle.examples.specs.Scripts.{Fact, answers, finds, readRefuses, sectorIs, decides, prints, played, blank, smallShape, small, updated}
+use Rattle.examples.specs.Scripts.{Fact, answers, finds, readRefuses, sectorIs, decides, prints, played, blank, smallShape, small, withUpdates}
 use Rattle.examples.specs.Examples.{A, B, zeros}
 
 -- Client 1 alone is active.
@@ -45,11 +45,11 @@ refuses c n = answers c 255 (refused n)
 
 -- Refusal 2's third condition: record 1 is open with an entry for file 1, whose header names nobody.
 abbrev pub strayEntry : Volume
-strayEntry = updated small (setRecord 1 (record { state = 1; entries = record { file = 1; page = 0; slot = 2 } ∷ [] }) ∷ [])
+strayEntry = withUpdates small (setRecord 1 (record { state = 1; entries = record { file = 1; page = 0; slot = 2 } ∷ [] }) ∷ [])
 
 -- "P 70, R 240": 62 pages of the one file are written.
 abbrev pub full : Volume
-full = updated (format (blank 62208) 1 (70 ∷ 240 ∷ []) .volume)
+full = withUpdates (format (blank 62208) 1 (70 ∷ 240 ∷ []) .volume)
     (setRecord 1 (record { state = 1; entries = map (λ p. record { file = 1; page = p; slot = 70 + p }) (from 0 62) })
     ∷ setHeader 1 (record { holder = 1; map = from 0 70 })
     ∷ [])
@@ -69,7 +69,7 @@ rows =
     record { volume = set small 0 0; session = newSession; script = refuses (begin 1) 1 ∷ readRefuses 1 1 0 1 ∷ prints notSoundLine ∷ [] }
     -- 2: "fresh V, kiln 1 marked"; a decided record; a kiln above T; the third condition
     ∷ record { volume = small; session = active1; script = refuses (begin 2) 2 ∷ refuses (commit 1) 2 ∷ [] }
-    ∷ record { volume = updated small (setRecord 1 (record { state = 2; entries = [] }) ∷ []); session = active1; script = refuses (abort 1) 2 ∷ [] }
+    ∷ record { volume = withUpdates small (setRecord 1 (record { state = 2; entries = [] }) ∷ []); session = active1; script = refuses (abort 1) 2 ∷ [] }
     ∷ record { volume = small; session = active3; script = refuses (begin 1) 2 ∷ [] }
     ∷ record { volume = strayEntry; session = active1; script = refuses (openFile 1 1) 2 ∷ refuses (commit 1) 2 ∷ readRefuses 1 1 0 2 ∷ [] }
     -- 3: "begin 3 on V"

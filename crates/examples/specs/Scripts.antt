@@ -91,5 +91,5 @@ abbrev pub small : Volume
 small = format (blank 2816) 2 smallShape .volume
 
 -- A volume with these updates made by hand.
-abbrev pub updated : Volume → List Update → Volume
-updated v xs = stored v (allStores (tableOf v) xs)
+abbrev pub withUpdates : Volume → List Update → Volume
+withUpdates v xs = stored v (allStores (tableOf v) xs)

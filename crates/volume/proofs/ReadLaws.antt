@@ -2,7 +2,7 @@
 -- decoded, a decoded list has at an index the bytes at that index, and the table's bytes are its encoding.
 use mathlib.Core.Path.{_≡_, refl, sym, ap, _∙_}
 use mathlib.Core.Bool.{true}
-use Prim.Native.Nat.{ℕ, _+_, _*_, _-_, _≤_}
+use Prim.Native.Nat.{ℕ, _+_, _*_, _-_, _≤_, _<_}
 use native.Mathlib.Omega.{arith}
 use borrow.Author.Tests.{leb-true}
 use lib.ListN.{length, getD}
@@ -11,7 +11,7 @@ use Rattle.sector.specs.Sectors.{Volume, sector}
 use Rattle.sector.specs.Decoding.{clientsIn, fileCountIn, fileIn, headerSectorIn, stateIn, countIn, entryIn, holderIn, mapIn, decodeTable, decodeRecord, decodeHeader}
 use Rattle.sector.proofs.ListLaws.{all-at, every-at, between-true}
 use Rattle.sector.proofs.CodecLaws.{decode-files-length, file-at, decoded-count, decoded-entry, map-at}
-use Rattle.volume.specs.Places.{IsClient, IsFile, IsPage, noFile, fileAt, headerSector, recordPlace, headerPlace}
+use Rattle.volume.specs.Places.{IsClient, IsFile, IsPage, noFile, fileAt, headerSector, recordPlace, headerPlace, slotPlace}
 use Rattle.volume.specs.Views.{View}
 use Rattle.volume.specs.Lawful.{fileFits}
 use Rattle.volume.specs.Volumes.{view}
@@ -51,6 +51,13 @@ module _ (v : Volume) (known : Known v) where
 
   pub header-inside : (f : ℕ) → IsFile (view v .table) f → 256 * headerSector (view v .table) f + 256 ≤ length v
   header-inside f i = omega (arith, place-inside (view v .table) (headerPlace f) i (known-shaped v known .ends), known .size)
+
+  pub few-headers : (f : ℕ) → IsFile (view v .table) f → headerSector (view v .table) f < 1024
+  few-headers f i = omega (arith, place-inside (view v .table) (headerPlace f) i (known-shaped v known .ends), few-sectors)
+
+  pub slot-inside : (f r : ℕ) → IsFile (view v .table) f → r < fileAt (view v .table) f .slots
+      → 256 * (headerSector (view v .table) f + 1 + r) + 256 ≤ length v
+  slot-inside f r i lt = omega (arith, place-inside (view v .table) (slotPlace f r) (i, lt) (known-shaped v known .ends), known .size)
 
   -- ---------------------------------------------------------------- the table's fields
   pub clients-in : clientsIn (sector v 0) ≡ view v .table .clients

@@ -1,5 +1,6 @@
 // The volume as a whole: what stands where, and what it holds.
 mod read;
+mod write;
 
 pub use read::clients;
 pub use read::entry_count;
@@ -15,6 +16,9 @@ pub use read::pages;
 pub use read::record;
 pub use read::slots;
 pub use read::state;
+pub use write::store_header;
+pub use write::store_record;
+pub use write::store_slot;
 
 // The limits of a volume.
 pub struct Limits {}

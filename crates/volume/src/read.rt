@@ -54,7 +54,7 @@ pub fn slots(v: &[u8], f: u8) -> u8
 // The sector of file f's header.
 pub fn header_sector(v: &[u8], f: u8) -> usize
     requires { ⌜ Known (now v) × IsFile (view (now v) .table) f ⌝ }
-    ensures { λ r. ⌜ (r ≡ headerSector (view (now (v .entry)) .table) f) × (r < 65536) ⌝ }
+    ensures { λ r. ⌜ (r ≡ headerSector (view (now (v .entry)) .table) f) × (r < 1024) ⌝ }
 {
     let i = sector::size(f) - 1;
     sector::file_header(table(v), i)

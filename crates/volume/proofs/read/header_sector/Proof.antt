@@ -2,7 +2,7 @@
 use mathlib.Core.Path.{_∙_}
 use native.Mathlib.Omega.{arith}
 use borrow.Author.Needs.{needs}
-use Rattle.volume.proofs.ReadLaws.{few-files, header-sector-in}
+use Rattle.volume.proofs.ReadLaws.{few-files, few-headers, header-sector-in}
 use Rattle.volume.proofs.read.header_sector.Statement.{statement}
 use Rattle.volume.proofs.read.header_sector.Tie as tie
 
@@ -25,7 +25,8 @@ returns : tie.Need-returns
 returns c =
     let s = c .before .before .before .before in
     let i = c .before .before .size .ensures .0 in
-    (c .file-header .ensures .0 ∙ rw (c .before .table .ensures .0, i) (header-sector-in (s .args .v .now) (s .pre .0) (s .args .f) (s .pre .1)), c .file-header .ensures .1)
+    let e = c .file-header .ensures .0 ∙ rw (c .before .table .ensures .0, i) (header-sector-in (s .args .v .now) (s .pre .0) (s .args .f) (s .pre .1)) in
+    (e, rw e (few-headers (s .args .v .now) (s .pre .0) (s .args .f) (s .pre .1)))
 
 pub header-sector-spec : {M : Type 1} → statement M
 header-sector-spec = tie.close (tie.spec size-requires sub-i table-requires file-header-requires returns)
