@@ -1,7 +1,9 @@
 -- `header_sector` meets its contract: the number read is the header's sector.
-use mathlib.Core.Path.{_∙_}
+use mathlib.Core.Path.{_≡_, _∙_}
 use native.Mathlib.Omega.{arith}
 use borrow.Author.Needs.{needs}
+use Rattle.volume.specs.Places.{headerSector}
+use Rattle.volume.specs.Volumes.{view}
 use Rattle.volume.proofs.ReadLaws.{few-files, few-headers, header-sector-in}
 use Rattle.volume.proofs.read.header_sector.Statement.{statement}
 use Rattle.volume.proofs.read.header_sector.Tie as tie
@@ -25,7 +27,7 @@ returns : tie.Need-returns
 returns c =
     let s = c .before .before .before .before in
     let i = c .before .before .size .ensures .0 in
-    let e = c .file-header .ensures .0 ∙ rw (c .before .table .ensures .0, i) (header-sector-in (s .args .v .now) (s .pre .0) (s .args .f) (s .pre .1)) in
+    let e : c .file-header .result ≡ headerSector (view (s .args .v .now) .table) (s .args .f) = c .file-header .ensures .0 ∙ rw (c .before .table .ensures .0, i) (header-sector-in (s .args .v .now) (s .pre .0) (s .args .f) (s .pre .1)) in
     (e, rw e (few-headers (s .args .v .now) (s .pre .0) (s .args .f) (s .pre .1)))
 
 pub header-sector-spec : {M : Type 1} → statement M
