@@ -2,3 +2,4 @@ pub mod PlaceLaws
 pub mod ViewLaws
 pub mod StoreLaws
 pub mod AccessLaws
+pub mod LawfulLaws
