@@ -1,2 +1,5 @@
 pub mod ChoiceLaws
 pub mod PlanExamples
+pub mod SessionLaws
+pub mod AllowedLaws
+pub mod ContentLaws

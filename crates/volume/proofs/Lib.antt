@@ -3,3 +3,4 @@ pub mod ViewLaws
 pub mod StoreLaws
 pub mod AccessLaws
 pub mod LawfulLaws
+pub mod AlongLaws
