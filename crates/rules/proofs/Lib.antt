@@ -3,3 +3,4 @@ pub mod PlanExamples
 pub mod SessionLaws
 pub mod AllowedLaws
 pub mod ContentLaws
+pub mod RecoveryLaws
