@@ -24,7 +24,7 @@ use Rattle.volume.proofs.LawfulLaws.{RecordFacts, HeaderFacts, Lawful, lawful-s
 use Rattle.rules.specs.Recovery.{isDecided}
 use Rattle.rules.specs.Content.{decidedMap, decidedContent}
 use Rattle.rules.proofs.AllowedLaws.{Others}
-use Rattle.rules.proofs.ContentLaws.{held-map}
+use Rattle.rules.proofs.ContentLaws.{decidedHeader, held-map}
 use Rattle.atomicity.specs.Model.{Pending}
 
 -- ------------------------------------------------------------------ pending pages in a view
@@ -87,11 +87,11 @@ decidedBy records f h =
 
 module _ (a₀ : View) (s : Session) (k : ℕ) (a : View) (kept : Keeps a₀ s k a) where
   -- A header with the decided map, which none of the others holds.
-  pub keep-header : (f j : ℕ) → HeaderFacts (a₀ .table) (a .records) f (record { holder = j; map = decidedMap a₀ f })
+  pub keep-header : (f j : ℕ) → HeaderFacts (a₀ .table) (a .records) f (decidedHeader a₀ f j)
       → (not (eqb j 0) && isDecided a j) ≡ false → ((i : ℕ) → Others s k i → a₀ .headers f .holder ≢ i)
-      → Keeps a₀ s k (changed a (setHeader f (record { holder = j; map = decidedMap a₀ f })))
+      → Keeps a₀ s k (changed a (setHeader f (decidedHeader a₀ f j)))
   keep-header f j facts undecided free = record {
-    laws = lawful-header (a₀ .table) a (kept .laws) f (record { holder = j; map = decidedMap a₀ f }) facts;
+    laws = lawful-header (a₀ .table) a (kept .laws) f (decidedHeader a₀ f j) facts;
     maps = λ g i. if-equal (λ (h : Header). decidedBy (a .records) g h ≡ decidedMap a₀ g) g f _ (a .headers g)
         (λ e. rw undecided (rw e)) (λ n. kept .maps g i);
     bytes = kept .bytes;

@@ -6,14 +6,17 @@ use mathlib.Core.Logic.{_≢_}
 use Prim.Native.Nat.{ℕ, zero, suc, _≤_, _<_}
 use native.Mathlib.Nat.{not-suc-le-zero}
 use native.Mathlib.Omega.{arith}
-use borrow.Author.Tests.{eqb-true, leb-true, ltb-true, not-false}
+use borrow.Author.Tests.{eqb-true, ne-eqb, leb-true, ltb-true, not-false}
 use lib.Dec.{eqb, leb}
 use lib.ListN.{length, getD}
 use Rattle.interface.specs.declared.Session.{Session}
 use Rattle.sector.specs.Lists.{if_then_else_, first, every}
 use Rattle.sector.specs.Contents.{Bytes, File, Table, Entry, Record, Header}
+use Rattle.sector.specs.Entries.{forFile}
 use Rattle.sector.specs.Sectors.{Volume}
 use Rattle.sector.proofs.ListLaws.{and-left, and-right, or-right, all-at, every-from}
+use Rattle.sector.proofs.CaseLaws.{by-equal}
+use Rattle.sector.proofs.SearchLaws.{every-implies}
 use Rattle.volume.specs.Places.{isClient, isFile, fileAt}
 use Rattle.volume.specs.Views.{View}
 use Rattle.volume.specs.Lawful.{lawful}
@@ -22,6 +25,7 @@ use Rattle.volume.specs.Sound.{sound}
 use Rattle.volume.proofs.PlaceLaws.{IsFile, client-of, file-of}
 use Rattle.volume.proofs.LawfulLaws.{Lawful, lawful-facts}
 use Rattle.rules.specs.Sessions.{isActive, markFits, sessionFits}
+use Rattle.rules.specs.Recovery.{isDecided}
 use Rattle.rules.specs.Plans.{Call, begin, openFile, write, commit, abort, freeSlots}
 use Rattle.rules.specs.Refusals.{holds, heldByOther, noPage, noEntry, tests, readTests}
 
@@ -53,6 +57,20 @@ pub record Running (a : View) (j : ℕ) : Type 0 where
   pub client : j ≤ a .table .clients
   pub state : a .records j .state ≡ 1
   pub mine : every (λ e. eqb (a .headers (e .file) .holder) j) (a .records j .entries) ≡ true
+
+-- It isn't decided, and has no entry for a file that it doesn't hold.
+pub running-undecided : (a : View) (j : ℕ) → Running a j → isDecided a j ≡ false
+running-undecided a j r = rw (r .state)
+
+pub running-foreign : (a : View) (j f : ℕ) → Running a j → a .headers f .holder ≢ j
+    → (t : Entry → Bool) → every (λ e. not (forFile f e && t e)) (a .records j .entries) ≡ true
+running-foreign a j f r n t =
+    every-implies (λ e. eqb (a .headers (e .file) .holder) j) (λ e. not (forFile f e && t e)) one (a .records j .entries) (r .mine)
+  where
+    one : (e : Entry) → eqb (a .headers (e .file) .holder) j ≡ true → not (forFile f e && t e) ≡ true
+    one e x =
+        let held : a .headers (e .file) .holder ≡ j = eqb-true _ _ x in
+        by-equal (e .file) f (λ y. absurd (n (rw y at held))) (λ y. rw (ne-eqb (e .file) f y))
 
 -- Neither refusal 1 nor refusal 2.
 pub record Ready (a : View) (s : Session) : Type 0 where

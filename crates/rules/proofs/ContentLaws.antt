@@ -108,6 +108,10 @@ redone-finds t f p (e ∷ es) m fit new size =
     go false x c y = refl
 
 -- ------------------------------------------------------------------ the decided map
+-- File f's header with its decided map, held by j.
+abbrev pub decidedHeader : View → ℕ → ℕ → Header
+decidedHeader a f j = record { holder = j; map = decidedMap a f }
+
 -- Of a file whose holder isn't decided, it is the map.
 pub held-map : (a : View) (f k : ℕ) → a .headers f .holder ≡ k → isDecided a k ≡ false → decidedMap a f ≡ a .headers f .map
 held-map a f k e n =

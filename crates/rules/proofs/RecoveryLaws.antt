@@ -18,6 +18,7 @@ use Rattle.volume.specs.Views.{View, Update, setRecord, setHeader, changed}
 use Rattle.volume.proofs.PlaceLaws.{IsFile}
 use Rattle.rules.specs.Recovery.{isDecided, mapAfter, heldFiles, recovery}
 use Rattle.rules.specs.Content.{decidedMap}
+use Rattle.rules.proofs.ContentLaws.{decidedHeader}
 
 -- ------------------------------------------------------------------ the files that k holds
 module _ (a : View) (k : ℕ) where
@@ -38,13 +39,9 @@ module _ (a : View) (k : ℕ) where
       (member-from (length (a .table .files)) 1 f (i .low) (omega arith)) q))
 
 -- ------------------------------------------------------------------ recovery by decided maps
--- File f's header with its decided map, held by nobody.
-abbrev pub freed : View → ℕ → Header
-freed a f = record { holder = 0; map = decidedMap a f }
-
--- The headers of these files are freed.
+-- The headers of these files with their decided maps, held by nobody.
 abbrev pub freeing : View → List ℕ → List Update
-freeing a fs = map (λ f. setHeader f (freed a f)) fs
+freeing a fs = map (λ f. setHeader f (decidedHeader a f 0)) fs
 
 pub recovery-is : (a : View) (k : ℕ) → 1 ≤ k → recovery (isDecided a k) a k ≡ freeing a (heldFiles a k) ++ (setRecord k idleRecord ∷ [])
 unfolding recovery heldFiles
