@@ -42,13 +42,14 @@ abbrev pub pendingIn : View → ℕ → Pending
 pendingIn a k = pendingBy (a .slots) (a .records k .entries)
 
 -- A slot that no entry gives changes none.
-pub pending-away : (a : View) (f r : ℕ) (d : Bytes) (es : List Entry) → every (λ e. not (givesSlot f r e)) es ≡ true
-    → pendingBy (changed a (setSlot f r d) .slots) es ≡ pendingBy (a .slots) es
-pending-away a f r d es h = λ i g q. go g q (find (forPage g q) es) refl i
-  where
-    go : (g q : ℕ) (o : Option Entry) → find (forPage g q) es ≡ o → bytesFor (changed a (setSlot f r d) .slots) o ≡ bytesFor (a .slots) o
-    go g q none w = refl
-    go g q (some e) w = rw (not-true (givesSlot f r e) (find-has (forPage g q) (λ e. not (givesSlot f r e)) es e w h .1))
+module _ (a : View) (f r : ℕ) (d : Bytes) (es : List Entry) (h : every (λ e. not (givesSlot f r e)) es ≡ true) where
+  pub bytes-away : (g q : ℕ) (o : Option Entry) → find (forPage g q) es ≡ o
+      → bytesFor (changed a (setSlot f r d) .slots) o ≡ bytesFor (a .slots) o
+  bytes-away g q none w = refl
+  bytes-away g q (some e) w = rw (not-true (givesSlot f r e) (find-has (forPage g q) (λ e. not (givesSlot f r e)) es e w h .1))
+
+  pending-away : pendingBy (changed a (setSlot f r d) .slots) es ≡ pendingBy (a .slots) es
+  pending-away = λ i g q. bytes-away g q (find (forPage g q) es) refl i
 
 -- ------------------------------------------------------------------ what is kept
 -- Client j has what it had.
