@@ -2,3 +2,4 @@ pub mod KeepLaws
 pub mod PlanLaws
 pub mod WriteLaws
 pub mod PendingLaws
+pub mod RelationLaws
