@@ -3,3 +3,5 @@ pub mod PlanLaws
 pub mod WriteLaws
 pub mod PendingLaws
 pub mod RelationLaws
+pub mod CallLaws
+pub mod Theorem

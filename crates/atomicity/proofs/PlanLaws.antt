@@ -18,7 +18,7 @@ use Rattle.volume.specs.Places.{isFile}
 use Rattle.volume.specs.Views.{View, Update, setRecord, setHeader, changed}
 use Rattle.volume.proofs.PlaceLaws.{IsFile, file-of}
 use Rattle.volume.proofs.LawfulLaws.{HeaderFacts, Lawful, idle-facts, open-facts, placed-record, placed-header}
-use Rattle.volume.proofs.AlongLaws.{Along}
+use Rattle.volume.proofs.AlongLaws.{Along, last, step}
 use Rattle.rules.specs.Sessions.{isActive, isOrphaned}
 use Rattle.rules.specs.Recovery.{isDecided, mapAfter, heldFiles, recovery}
 use Rattle.rules.specs.Plans.{beginPlan, openPlan}
@@ -46,15 +46,15 @@ module _ (a₀ : View) (s : Session) (k j : ℕ) (laws : Lawful (a₀ .table) a�
       → ((g : ℕ) → IsFile (a₀ .table) g → a .headers g .holder ≡ j → member g fs ≡ true) → Keeps a₀ s k a
       → KeptAlong a₀ s k a (freeing a₀ fs ++ (setRecord j idleRecord ∷ ys))
   freeing-along [] a held left kept =
-      (kept, placed-record (a₀ .table) a₀ laws j idleRecord lo hi (idle-facts (a₀ .table)), after _ idled unnamed)
+      step kept (placed-record (a₀ .table) a₀ laws j idleRecord lo hi (idle-facts (a₀ .table))) (after _ idled unnamed)
     where
       unnamed : Unnamed (a₀ .table) j a
       unnamed f i e = false≢true (left f i e)
       idled : Keeps a₀ s k (changed a (setRecord j idleRecord))
       idled = keep-record a₀ s k a kept j idleRecord (idle-facts (a₀ .table)) (λ f i e. absurd (unnamed f i e)) ne
   freeing-along (f ∷ fs) a held left kept =
-      (kept, placed-header (a₀ .table) a₀ laws f (decidedHeader a₀ f 0) file (decided-fits a₀ laws f file),
-      freeing-along fs _ (and-right (isFile (a₀ .table) f && eqb (a₀ .headers f .holder) j) _ held) still
+      step kept (placed-header (a₀ .table) a₀ laws f (decidedHeader a₀ f 0) file (decided-fits a₀ laws f file))
+      (freeing-along fs _ (and-right (isFile (a₀ .table) f && eqb (a₀ .headers f .holder) j) _ held) still
       (keep-header a₀ s k a kept f 0 facts refl (λ i o q. ne i o (sym q ∙ holder))))
     where
       this : (isFile (a₀ .table) f && eqb (a₀ .headers f .holder) j) ≡ true
@@ -78,7 +78,7 @@ module _ (a₀ : View) (s : Session) (k j : ℕ) (laws : Lawful (a₀ .table) a�
 pub recovery-along : (a₀ : View) (s : Session) (k : ℕ) → Lawful (a₀ .table) a₀ → 1 ≤ k → k ≤ a₀ .table .clients
     → KeptAlong a₀ s k a₀ (recovery (isDecided a₀ k) a₀ k)
 recovery-along a₀ s k laws lo hi =
-    rw (recovery-is a₀ k lo) (recovers a₀ s k k laws lo hi (λ i o. o .other) [] (λ a kept unnamed. kept))
+    rw (recovery-is a₀ k lo) (recovers a₀ s k k laws lo hi (λ i o. o .other) [] (λ a kept unnamed. last kept))
 
 module _ (a : View) (s : Session) (k : ℕ) where
   -- ------------------------------------------------------------------ abort
@@ -98,8 +98,8 @@ module _ (a : View) (s : Session) (k : ℕ) where
       laws = w .ready .laws
       opened : (b : View) → Keeps a s k b → Unnamed (a .table) k b → KeptAlong a s k b (setRecord k openRecord ∷ [])
       opened b kept unnamed =
-          (kept, placed-record (a .table) a laws k openRecord (w .low) (w .high) (open-facts (a .table)),
-          keep-record a s k b kept k openRecord (open-facts (a .table)) (λ f i e. absurd (unnamed f i e)) (λ i o. o .other))
+          step kept (placed-record (a .table) a laws k openRecord (w .low) (w .high) (open-facts (a .table)))
+          (last (keep-record a s k b kept k openRecord (open-facts (a .table)) (λ f i e. absurd (unnamed f i e)) (λ i o. o .other)))
       idle-unnamed : isOrphaned a s k ≡ false → Unnamed (a .table) k a
       idle-unnamed e f i q =
           let idle : eqb (a .records k .state) 0 ≡ true = not-false _ (rw (w .off) at e) in
@@ -117,8 +117,8 @@ module _ (a : View) (s : Session) (k : ℕ) where
 
     takes : (b : View) → Keeps a s 0 b → KeptAlong a s 0 b (setHeader f (decidedHeader a f k) ∷ [])
     takes b kept =
-        (kept, placed-header (a .table) a laws f (decidedHeader a f k) (w .file) (decided-fits a laws f (w .file)),
-        keep-header a s 0 b kept f k facts undecided unheld)
+        step kept (placed-header (a .table) a laws f (decidedHeader a f k) (w .file) (decided-fits a laws f (w .file)))
+        (last (keep-header a s 0 b kept f k facts undecided unheld))
       where
         laws : Lawful (a .table) a
         laws = w .act .ready .laws
@@ -141,7 +141,7 @@ module _ (a : View) (s : Session) (k : ℕ) where
   pub open-along : (f : ℕ) → MayOpen a s k f → KeptAlong a s 0 a (openPlan a k f)
   unfolding openPlan
   open-along f w =
-      if-equal (KeptAlong a s 0 a) (a .headers f .holder) k [] _ (λ e. self)
+      if-equal (KeptAlong a s 0 a) (a .headers f .holder) k [] _ (λ e. last self)
       (λ n. if-equal (KeptAlong a s 0 a) (a .headers f .holder) 0 _ _ (unowned n) (orphaned n))
     where
       laws : Lawful (a .table) a

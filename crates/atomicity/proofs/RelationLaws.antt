@@ -83,10 +83,10 @@ module _ (a₀ : View) (s : Session) (k : ℕ) (m : Model) (pages : PagesMatch a
 
   module _ (xs : List Update) (along : KeptAlong a₀ s k a₀ xs) where
     prefix-pages : (n : ℕ) → PagesMatch (changedBy a₀ (take n xs)) m
-    prefix-pages n = pages-kept _ (changed-table (take n xs) a₀) (along-take (a₀ .table) (Keeps a₀ s k) xs a₀ n along)
+    prefix-pages n = pages-kept _ (changed-table (take n xs) a₀) (along-take n along)
 
     end-kept : Keeps a₀ s k (changedBy a₀ xs)
-    end-kept = along-end (a₀ .table) (Keeps a₀ s k) xs a₀ along
+    end-kept = along-end along
 
     end-pages : PagesMatch (changedBy a₀ xs) m
     end-pages = pages-kept _ (changed-table xs a₀) end-kept

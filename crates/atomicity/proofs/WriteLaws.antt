@@ -23,7 +23,9 @@ use Rattle.volume.specs.Places.{fileAt}
 use Rattle.volume.specs.Views.{View, setRecord, setSlot, changed}
 use Rattle.volume.specs.Lawful.{entryFits, apart}
 use Rattle.volume.proofs.PlaceLaws.{IsFile}
+use Rattle.volume.proofs.ViewLaws.{Placed}
 use Rattle.volume.proofs.LawfulLaws.{RecordFacts, EntryFacts, Lawful, entry-facts, lawful-record, placed-record}
+use Rattle.volume.proofs.AlongLaws.{last, step}
 use Rattle.rules.specs.Recovery.{isDecided, recovery}
 use Rattle.rules.specs.Plans.{entryFor, chosen, appended, writePlan}
 use Rattle.rules.specs.Content.{decidedMap}
@@ -53,6 +55,9 @@ module _ (a : View) (s : Session) (k f p : ℕ) (d : Bytes) (w : MayWrite a s k 
 
   self : Keeps a s k a
   self = keeps-self a s k (act .ready .laws)
+
+  slot-placed : (r : ℕ) → r < fileAt (a .table) f .slots → Placed (a .table) (setSlot f r d)
+  slot-placed r below = (w .place .file, below, w .size)
 
   slot-kept : (r : ℕ) → member r (a .headers f .map) ≡ false → Keeps a s k (changed a (setSlot f r d))
   slot-kept r unmapped = keep-slot a s k a self f r d
@@ -108,18 +113,17 @@ module _ (a : View) (s : Session) (k f p : ℕ) (d : Bytes) (w : MayWrite a s k 
 
     new-along : KeptAlong a s k a (setSlot f r d ∷ setRecord k (appended (a .records k) (entryIn r)) ∷ [])
     new-along =
-        (self, (w .place .file, free .below, w .size),
-        (slot-kept r (free .unmapped),
-        placed-record (a .table) a (act .ready .laws) k (appended (a .records k) (entryIn r)) (act .active .low) (act .running .client) grown-facts,
-        grown-kept))
+        step self (slot-placed r (free .below)) (step (slot-kept r (free .unmapped))
+        (placed-record (a .table) a (act .ready .laws) k (appended (a .records k) (entryIn r)) (act .active .low) (act .running .client) grown-facts)
+        (last grown-kept))
 
   pub new-free : entryFor a k f p ≡ none → Free a k f (chosen a k f p)
   new-free new = chosen-free a k f p (rw new at (w .room))
 
   pub write-along : (o : Option Entry) → entryFor a k f p ≡ o → KeptAlong a s k a (writePlan a k f p d o)
   write-along (some e) found =
-      (self, (w .place .file, entry-facts (a .table) (a .records k) (own-record a s k act) f p e found .slot, w .size),
-      slot-kept (e .slot) (entry-unmapped e found))
+      step self (slot-placed (e .slot) (entry-facts (a .table) (a .records k) (own-record a s k act) f p e found .slot))
+      (last (slot-kept (e .slot) (entry-unmapped e found)))
   write-along none new =
       let full : length (a .records k .entries) ≢ 62 = eqb-false _ _ (rw new at (w .few)) in
       new-along (chosen a k f p) new (new-free new) (omega (arith, own-record a s k act .few))
@@ -131,7 +135,10 @@ module _ (a : View) (s : Session) (k : ℕ) (w : MayAct a s k) where
       let x : RecordFacts (a .table) (a .records k) = own-record a s k w in
       record { state = omega arith; few = x .few; fit = x .fit; pages = x .pages; slots = x .slots; idle = refl }
 
-  pub decided-laws : Lawful (a .table) (decidedView a k)
+  pub decided-placed : Placed (a .table) (setRecord k (decidedRecord (a .records k)))
+  decided-placed = placed-record (a .table) a (w .ready .laws) k (decidedRecord (a .records k)) (w .active .low) (w .running .client) decided-facts
+
+  decided-laws : Lawful (a .table) (decidedView a k)
   decided-laws = lawful-record (a .table) a (w .ready .laws) k (decidedRecord (a .records k)) decided-facts
       (λ f i e. (refl, own-apart a s k w f i e))
 

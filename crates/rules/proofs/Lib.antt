@@ -4,3 +4,4 @@ pub mod SessionLaws
 pub mod AllowedLaws
 pub mod ContentLaws
 pub mod RecoveryLaws
+pub mod ExecutedLaws

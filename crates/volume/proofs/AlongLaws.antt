@@ -9,28 +9,28 @@ use Rattle.volume.proofs.ViewLaws.{Placed}
 use Rattle.volume.proofs.StoreLaws.{AllPlaced}
 
 -- The claim holds before each update and after the last, and each update has its place.
-abbrev pub Along : Table → (View → Type 0) → View → List Update → Type 0
-Along t P a [] = P a
-Along t P a (x ∷ xs) = P a × Placed t x × Along t P (changed a x) xs
+pub data Along (t : Table) (P : View → Type 0) : View → List Update → Type 0 where
+  last : {a : View} → P a → Along t P a []
+  step : {a : View} {x : Update} {xs : List Update} → P a → Placed t x → Along t P (changed a x) xs → Along t P a (x ∷ xs)
 
-module _ (t : Table) (P : View → Type 0) where
-  pub along-take : (xs : List Update) (a : View) (n : ℕ) → Along t P a xs → P (changedBy a (take n xs))
-  along-take [] a zero h = h
-  along-take [] a (suc n) h = h
-  along-take (x ∷ xs) a zero h = h .0
-  along-take (x ∷ xs) a (suc n) h = along-take xs (changed a x) n (h .2)
+module _ {t : Table} {P : View → Type 0} where
+  pub along-take : {a : View} {xs : List Update} (n : ℕ) → Along t P a xs → P (changedBy a (take n xs))
+  along-take zero (last h) = h
+  along-take (suc n) (last h) = h
+  along-take zero (step h p w) = h
+  along-take (suc n) (step h p w) = along-take n w
 
-  pub along-end : (xs : List Update) (a : View) → Along t P a xs → P (changedBy a xs)
-  along-end [] a h = h
-  along-end (x ∷ xs) a h = along-end xs (changed a x) (h .2)
+  pub along-end : {a : View} {xs : List Update} → Along t P a xs → P (changedBy a xs)
+  along-end (last h) = h
+  along-end (step h p w) = along-end w
 
-  pub along-placed : (xs : List Update) (a : View) → Along t P a xs → AllPlaced t xs
-  along-placed [] a h = tt
-  along-placed (x ∷ xs) a h = (h .1, along-placed xs (changed a x) (h .2))
+  pub along-placed : {a : View} {xs : List Update} → Along t P a xs → AllPlaced t xs
+  along-placed (last h) = tt
+  along-placed (step h p w) = (p, along-placed w)
 
-  pub along-map : (Q : View → Type 0) → ((a : View) → P a → Q a) → (xs : List Update) (a : View) → Along t P a xs → Along t Q a xs
-  along-map Q f [] a h = f a h
-  along-map Q f (x ∷ xs) a h = (f a (h .0), h .1, along-map Q f xs (changed a x) (h .2))
+  pub along-map : {Q : View → Type 0} {a : View} {xs : List Update} → ((b : View) → P b → Q b) → Along t P a xs → Along t Q a xs
+  along-map {a = a} f (last h) = last (f a h)
+  along-map {a = a} f (step h p w) = step (f a h) p (along-map f w)
 
 -- No update changes the table.
 pub changed-table : (xs : List Update) (a : View) → changedBy a xs .table ≡ a .table
