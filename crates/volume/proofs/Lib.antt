@@ -4,3 +4,4 @@ pub mod StoreLaws
 pub mod AccessLaws
 pub mod LawfulLaws
 pub mod AlongLaws
+pub mod CanonicalLaws
