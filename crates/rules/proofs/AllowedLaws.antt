@@ -16,7 +16,7 @@ use Rattle.sector.specs.Entries.{forFile}
 use Rattle.sector.specs.Sectors.{Volume}
 use Rattle.sector.proofs.ListLaws.{and-left, and-right, or-right, all-at, every-from}
 use Rattle.sector.proofs.CaseLaws.{by-equal}
-use Rattle.sector.proofs.SearchLaws.{every-implies}
+use Rattle.sector.proofs.SearchLaws.{every-implies, first-none}
 use Rattle.volume.specs.Places.{isClient, isFile, fileAt}
 use Rattle.volume.specs.Views.{View}
 use Rattle.volume.specs.Lawful.{lawful}
@@ -28,17 +28,6 @@ use Rattle.rules.specs.Sessions.{isActive, markFits, sessionFits}
 use Rattle.rules.specs.Recovery.{isDecided}
 use Rattle.rules.specs.Plans.{Call, begin, openFile, write, commit, abort, freeSlots}
 use Rattle.rules.specs.Refusals.{holds, heldByOther, noPage, noEntry, tests, readTests}
-
--- ------------------------------------------------------------------ no refusal
--- Each test failed, if none of the numbers is 0.
-pub first-none : (xs : List (ℕ × Bool)) (i : ℕ) → every (λ x. leb 1 (x .0)) xs ≡ true → first xs ≡ 0 → getD xs i (0, false) .1 ≡ false
-unfolding first
-first-none [] i e z = refl
-first-none ((n, true) ∷ xs) i e z =
-    let lt : 1 ≤ n = leb-true 1 n (and-left (leb 1 n) _ e) in
-    absurd (not-suc-le-zero {n = 0} (omega arith))
-first-none ((n, false) ∷ xs) zero e z = refl
-first-none ((n, false) ∷ xs) (suc i) e z = first-none xs i (and-right (leb 1 n) _ e) z
 
 -- ------------------------------------------------------------------ sessions
 -- Client j is marked.

@@ -1,17 +1,17 @@
 -- Laws of searching a list (any, find, member, distinct), and of a list with one element set or one more at its end.
 -- Each by induction on the list; `go` has the values of the first element's test.
-use mathlib.Core.Path.{_≡_, refl, sym}
+use mathlib.Core.Path.{_≡_, refl, sym, ap, _∙_}
 use mathlib.Core.Bool.{Bool, true, false, not, _&&_, _||_, true≢false}
 use mathlib.Core.List.{List, [], _∷_, _++_}
 use mathlib.Core.Logic.{_≢_}
 use mathlib.Core.Option.{Option, none, some}
-use Prim.Native.Nat.{ℕ, zero, suc, _<_}
+use Prim.Native.Nat.{ℕ, zero, suc, _+_, _≤_, _<_}
 use native.Mathlib.Nat.{not-suc-le-zero, le-of-suc-le-suc}
 use native.Mathlib.Omega.{arith}
-use borrow.Author.Tests.{eqb-false, eq-eqb, ne-eqb, not-true}
-use lib.Dec.{eqb}
+use borrow.Author.Tests.{leb-true, eqb-false, eq-eqb, ne-eqb, not-true}
+use lib.Dec.{eqb, leb}
 use lib.ListN.{length, getD, set}
-use Rattle.sector.specs.Lists.{if_then_else_, every, any, find, distinct, member}
+use Rattle.sector.specs.Lists.{if_then_else_, first, every, any, find, distinct, member, from}
 use Rattle.sector.proofs.ListLaws.{and-left, and-right, and-both, or-none, no-both}
 
 -- ------------------------------------------------------------------ two tests
@@ -119,6 +119,17 @@ module _ {A : Type 0} where
       go ih true = refl
       go ih false = ih
 
+-- ------------------------------------------------------------------ the first test that holds
+-- None does: each test fails, if none of the numbers is 0.
+pub first-none : (xs : List (ℕ × Bool)) (i : ℕ) → every (λ x. leb 1 (x .0)) xs ≡ true → first xs ≡ 0 → getD xs i (0, false) .1 ≡ false
+unfolding first
+first-none [] i e z = refl
+first-none ((n, true) ∷ xs) i e z =
+    let lt : 1 ≤ n = leb-true 1 n (and-left (leb 1 n) _ e) in
+    absurd (not-suc-le-zero {n = 0} (omega arith))
+first-none ((n, false) ∷ xs) zero e z = refl
+first-none ((n, false) ∷ xs) (suc i) e z = first-none xs i (and-right (leb 1 n) _ e) z
+
 -- ------------------------------------------------------------------ numbers in a list
 pub not-member : (m : List ℕ) (r i : ℕ) → member r m ≡ false → i < length m → getD m i 0 ≢ r
 not-member [] r i e h = absurd (not-suc-le-zero h)
@@ -147,3 +158,21 @@ distinct-set (z ∷ m) (suc i) y e h =
     let n : eqb z y ≡ false = ne-eqb z y (λ q. eqb-false y z (d .0) (sym q)) in
     and-both (not (member z (set m i y))) _ (rw (member-set m i z y (not-true _ (and-left (not (member z m)) _ e)) n))
     (distinct-set m i y (and-right (not (member z m)) _ e) (d .1))
+
+-- ------------------------------------------------------------------ the numbers from a on
+pub from-length : (n a : ℕ) → length (from a n) ≡ n
+from-length zero a = refl
+from-length (suc n) a = ap suc (from-length n (suc a))
+
+pub from-at : (n a i : ℕ) → i < n → getD (from a n) i 0 ≡ a + i
+from-at zero a i h = absurd (not-suc-le-zero h)
+from-at (suc n) a zero h = omega arith
+from-at (suc n) a (suc i) h = from-at n (suc a) i (le-of-suc-le-suc h) ∙ omega arith
+
+from-above : (n a i : ℕ) → i < a → member i (from a n) ≡ false
+from-above zero a i h = refl
+from-above (suc n) a i h = rw (ne-eqb i a (omega arith)) (from-above n (suc a) i (omega arith))
+
+pub from-distinct : (n a : ℕ) → distinct eqb (from a n) ≡ true
+from-distinct zero a = refl
+from-distinct (suc n) a = and-both (not (member a (from (suc a) n))) _ (rw (from-above n (suc a) a (omega arith))) (from-distinct n (suc a))

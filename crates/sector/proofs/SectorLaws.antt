@@ -15,7 +15,7 @@ use Rattle.sector.specs.Contents.{Bytes}
 use Rattle.sector.specs.Sectors.{Volume, sector, storeAt}
 
 -- What stands behind the first part is not seen in it.
-front : (a x : Bytes) (n m : ℕ) → n + m ≤ length a → take m (drop n (a ++ x)) ≡ take m (drop n a)
+pub front : (a x : Bytes) (n m : ℕ) → n + m ≤ length a → take m (drop n (a ++ x)) ≡ take m (drop n a)
 front a x n m h =
     let h1 : n ≤ length a = omega arith in
     let h2 : m ≤ length (drop n a) = simp length-drop (omega arith) in

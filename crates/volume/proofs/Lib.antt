@@ -5,3 +5,4 @@ pub mod AccessLaws
 pub mod LawfulLaws
 pub mod AlongLaws
 pub mod CanonicalLaws
+pub mod FormatLaws
