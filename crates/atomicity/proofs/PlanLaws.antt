@@ -24,7 +24,7 @@ use Rattle.rules.specs.Recovery.{isDecided, mapAfter, heldFiles, recovery}
 use Rattle.rules.specs.Plans.{beginPlan, openPlan}
 use Rattle.rules.specs.Content.{decidedMap}
 use Rattle.rules.proofs.AllowedLaws.{Others, Running, MayBegin, MayAct, MayOpen, running-undecided, running-foreign}
-use Rattle.rules.proofs.ContentLaws.{decidedHeader, decided-fits}
+use Rattle.rules.proofs.ContentLaws.{decidedHeader, unheld-map, decided-fits}
 use Rattle.rules.proofs.RecoveryLaws.{held-files, held-member, freeing, recovery-is}
 use Rattle.atomicity.proofs.KeepLaws.{Left, Keeps, keeps-self, keep-header, keep-record}
 
@@ -150,8 +150,7 @@ module _ (a : View) (s : Session) (k : ℕ) where
       self = keeps-self a s 0 laws
       unowned : a .headers f .holder ≢ k → a .headers f .holder ≡ 0 → KeptAlong a s 0 a (setHeader f (record { holder = k; map = a .headers f .map }) ∷ [])
       unowned n e =
-          let q : a .headers f .map ≡ decidedMap a f = rw e in
-          rw q (takes f w n a self)
+          rw (sym (unheld-map a f e)) (takes f w n a self)
       orphaned : a .headers f .holder ≢ k → a .headers f .holder ≢ 0
           → KeptAlong a s 0 a (recovery (isDecided a (a .headers f .holder)) a (a .headers f .holder)
           ++ (setHeader f (record { holder = k; map = mapAfter (isDecided a (a .headers f .holder)) a (a .headers f .holder) f }) ∷ []))

@@ -6,8 +6,9 @@ use mathlib.Core.Path.{_≡_, refl, sym, ap, _∙_}
 use mathlib.Core.Bool.{Bool, true, false}
 use mathlib.Core.List.{List, [], _∷_}
 use mathlib.Core.Option.{Option, none, some}
-use Prim.Native.Nat.{ℕ, zero, suc, _<_}
-use lib.ListN.{length, getD, take}
+use Prim.Native.Nat.{ℕ, zero, suc, _+_, _<_}
+use native.Mathlib.Omega.{arith}
+use lib.ListN.{length, getD, replicate}
 use Rattle.interface.specs.declared.Session.{Session}
 use Rattle.interface.specs.Answers.{newSession, done, crashed}
 use Rattle.sector.specs.Lists.{if_then_else_, first}
@@ -15,15 +16,18 @@ use Rattle.sector.specs.Contents.{Bytes, File, Table, Entry, Header}
 use Rattle.sector.specs.Sectors.{Volume, sector}
 use Rattle.sector.proofs.ListLaws.{no-both}
 use Rattle.sector.proofs.CaseLaws.{by-test}
+use Rattle.sector.proofs.SearchLaws.{from-at}
 use Rattle.volume.specs.Places.{fileAt, slotPlace, sectorOf}
 use Rattle.volume.specs.Views.{View, Update}
 use Rattle.volume.specs.Volumes.{view}
 use Rattle.volume.specs.Sound.{sound}
+use Rattle.volume.specs.Format.{tableFor, newVolume, format}
 use Rattle.volume.specs.Stores.{Store, stored, allStores}
 use Rattle.volume.proofs.PlaceLaws.{IsFile}
 use Rattle.volume.proofs.StoreLaws.{Shaped, sound-shaped, AllPlaced, view-stores, view-prefix}
 use Rattle.volume.proofs.AccessLaws.{slot-is}
-use Rattle.volume.proofs.LawfulLaws.{EntryFacts, Lawful, entry-facts}
+use Rattle.volume.proofs.LawfulLaws.{TableFacts, EntryFacts, file-facts, entry-facts}
+use Rattle.volume.proofs.FormatLaws.{newHeader, new-table, new-header, new-slot, FormatFacts, format-done}
 use Rattle.volume.proofs.AlongLaws.{along-placed}
 use Rattle.rules.specs.Sessions.{noneActive}
 use Rattle.rules.specs.Plans.{Call, begin, openFile, write, commit, abort, entryFor, slotFor, plan, sessionAfter}
@@ -33,10 +37,10 @@ use Rattle.rules.specs.Content.{decidedMap, decidedContent}
 use Rattle.rules.proofs.ExecutedLaws.{executed-case}
 use Rattle.rules.proofs.SessionLaws.{none-active}
 use Rattle.rules.proofs.AllowedLaws.{Active, MayAct, MayRead, Allowed, readable, allowed, allowed-sound}
-use Rattle.rules.proofs.ContentLaws.{decided-slot}
-use Rattle.atomicity.specs.Model.{Pending, noPending, Model, orElse, overlaid, shown, emptied, effect, settled, modelCall}
-use Rattle.atomicity.specs.Runs.{Step, calls, reads, Run, given, stepped}
-use Rattle.atomicity.specs.AllOrNone.{ContentAgrees, ReadAgrees, Agrees}
+use Rattle.rules.proofs.ContentLaws.{unheld-map, decided-slot}
+use Rattle.atomicity.specs.Model.{noPending, Model, newModel, orElse, shown, effect, settled, modelCall}
+use Rattle.atomicity.specs.Runs.{Step, calls, reads, Run, started, given, stepped}
+use Rattle.atomicity.specs.AllOrNone.{ContentAgrees, ReadAgrees, Agrees, AllOrNone}
 use Rattle.atomicity.proofs.KeepLaws.{bytesFor, pendingIn}
 use Rattle.atomicity.proofs.WriteLaws.{own-record, own-map}
 use Rattle.atomicity.proofs.RelationLaws.{Matches, Faithful, faithful, faithful-matches, new-matches, Outcome, outcome}
@@ -115,18 +119,20 @@ given-matches : (a : View) (s : Session) (m : Model) (crash : Bool) → Matches 
 given-matches a s m true h = new-matches a m (h .pages)
 given-matches a s m false h = h
 
+content-agrees : (r : Run) → Related r → ContentAgrees r
+content-agrees r h f p lo hi lt = h .pages f p (record { low = lo; high = hi }) lt
+
 -- From any start that is related.
 pub agrees : (r : Run) (steps : List Step) → Related r → Agrees r steps
 unfolding stepped read
-agrees r [] h = λ f p lo hi. h .pages f p (record { low = lo; high = hi })
+agrees r [] h = content-agrees r h
 agrees r (calls crash c budget ∷ xs) h =
     let g : Matches (view (r .volume)) (given crash (r .session)) (r .model) = given-matches _ _ _ crash h in
-    ((λ f p lo hi. h .pages f p (record { low = lo; high = hi })), tt,
+    (content-agrees r h, tt,
     agrees (stepped r (calls crash c budget)) xs (call-matches (r .volume) (given crash (r .session)) (r .model) g c budget))
 agrees r (reads crash k f p ∷ xs) h =
     let g : Matches (view (r .volume)) (given crash (r .session)) (r .model) = given-matches _ _ _ crash h in
-    ((λ f p lo hi. h .pages f p (record { low = lo; high = hi })),
-    read-matches (r .volume) (given crash (r .session)) (r .model) g k f p _ refl, agrees r xs h)
+    (content-agrees r h, read-matches (r .volume) (given crash (r .session)) (r .model) g k f p _ refl, agrees r xs h)
 
 -- A volume with the decided content that it has, and a new session.
 abbrev pub startedAs : Volume → Run
@@ -134,3 +140,25 @@ startedAs v = record { volume = v; session = newSession; model = record { pages 
 
 pub agrees-from : (v : Volume) (steps : List Step) → Agrees (startedAs v) steps
 agrees-from v steps = agrees (startedAs v) steps (new-matches (view v) _ (λ f p i lt. refl))
+
+-- ------------------------------------------------------------------ from a formatted volume
+-- Page p is in slot p, and every slot is zero.
+new-content : (t : Table) → TableFacts t → (f p : ℕ) → IsFile t f → p < fileAt t f .pages
+    → decidedContent (view (newVolume t)) f p ≡ replicate 256 0
+new-content t facts f p i lt =
+    ap (λ (m : List ℕ). a .slots f (getD m p 0)) (unheld-map a f (ap (λ (h : Header). h .holder) header) ∙ ap (λ (h : Header). h .map) header)
+    ∙ rw (from-at (fileAt t f .pages) 0 p lt) (new-slot t facts f (0 + p) i (omega (arith, file-facts t facts f i .room)))
+  where
+    a : View
+    a = view (newVolume t)
+    header : view (newVolume t) .headers f ≡ newHeader (fileAt t f)
+    header = new-header t facts f i
+
+new-related : (t : Table) → TableFacts t → Related (started (newVolume t))
+new-related t facts = new-matches (view (newVolume t)) newModel
+    (λ f p i lt. new-content t facts f p (rw (new-table t facts) at i) (rw (new-table t facts) at lt))
+
+pub all-or-none : AllOrNone
+all-or-none v T l d steps =
+    let x : FormatFacts (tableFor (length v) T l) (format v T l .volume) = format-done v T l d in
+    agrees (started (format v T l .volume)) steps (rw (x .volume) (new-related (tableFor (length v) T l) (x .facts)))

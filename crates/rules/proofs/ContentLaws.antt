@@ -112,7 +112,10 @@ redone-finds t f p (e ∷ es) m fit new size =
 abbrev pub decidedHeader : View → ℕ → ℕ → Header
 decidedHeader a f j = record { holder = j; map = decidedMap a f }
 
--- Of a file whose holder isn't decided, it is the map.
+-- Of a file that nobody holds, or whose holder isn't decided, it is the map.
+pub unheld-map : (a : View) (f : ℕ) → a .headers f .holder ≡ 0 → decidedMap a f ≡ a .headers f .map
+unheld-map a f e = rw e
+
 pub held-map : (a : View) (f k : ℕ) → a .headers f .holder ≡ k → isDecided a k ≡ false → decidedMap a f ≡ a .headers f .map
 held-map a f k e n =
     let d : isDecided a (a .headers f .holder) ≡ false = rw e n in
