@@ -74,22 +74,18 @@ pub new-matches : (a : View) (m : Model) → PagesMatch a m → Matches a newSes
 new-matches a m h = record { pages = h; tracked = λ e. absurd (true≢false e); marks = refl }
 
 -- ------------------------------------------------------------------ updates that keep what must not be touched
-module _ (a₀ : View) (s : Session) (k : ℕ) (m : Model) (pages : PagesMatch a₀ m) where
+module _ {a₀ : View} {s : Session} {k : ℕ} (m : Model) (pages : PagesMatch a₀ m) where
   pages-kept : (a : View) → a .table ≡ a₀ .table → Keeps a₀ s k a → PagesMatch a m
   pages-kept a e kept f p i lt =
       let file : IsFile (a₀ .table) f = rw e at i in
       let page : p < fileAt (a₀ .table) f .pages = rw e at lt in
       kept-content a₀ s k a kept f p file page ∙ pages f p file page
 
-  module _ (xs : List Update) (along : KeptAlong a₀ s k a₀ xs) where
-    prefix-pages : (n : ℕ) → PagesMatch (changedBy a₀ (take n xs)) m
-    prefix-pages n = pages-kept _ (changed-table (take n xs) a₀) (along-take n along)
+  prefix-pages : {xs : List Update} → KeptAlong a₀ s k a₀ xs → (n : ℕ) → PagesMatch (changedBy a₀ (take n xs)) m
+  prefix-pages {xs} along n = pages-kept _ (changed-table (take n xs) a₀) (along-take n along)
 
-    end-kept : Keeps a₀ s k (changedBy a₀ xs)
-    end-kept = along-end along
-
-    end-pages : PagesMatch (changedBy a₀ xs) m
-    end-pages = pages-kept _ (changed-table xs a₀) end-kept
+  end-pages : {xs : List Update} → KeptAlong a₀ s k a₀ xs → PagesMatch (changedBy a₀ xs) m
+  end-pages {xs} along = pages-kept _ (changed-table xs a₀) (along-end along)
 
 -- What a call of client k that is done changes: the mark and the pending pages of k, at most.
 pub record OnlyOwn (k : ℕ) (a b : View) (s s′ : Session) (m m′ : Model) : Type 0 where
@@ -126,8 +122,8 @@ module _ (a : View) (s : Session) (m : Model) (h : Faithful a s m) where
   begin-outcome : (k : ℕ) → MayBegin a s k → Outcome a s m (begin k)
   unfolding plan beginPlan
   begin-outcome k w = record {
-    cuts = prefix-pages a s k m (h .pages) (beginPlan a s k) along;
-    ends = λ n. own-matches k a end s (setActive s k true) m m h only (end-pages a s k m (h .pages) (beginPlan a s k) along)
+    cuts = prefix-pages m (h .pages) along;
+    ends = λ n. own-matches k a end s (setActive s k true) m m h only (end-pages m (h .pages) along)
         (length-set (s .active) (k - 1) true ∙ h .marks);
   }
     where
@@ -139,7 +135,7 @@ module _ (a : View) (s : Session) (m : Model) (h : Faithful a s m) where
       opened = last-record (if isOrphaned a s k then recovery (isDecided a k) a k else []) a k openRecord
       only : OnlyOwn k a end s (setActive s k true) m m
       only = record {
-        others = λ j o. end-kept a s k m (h .pages) (beginPlan a s k) along .others j o .pending;
+        others = λ j o. along-end along .others j o .pending;
         marks = λ j lo n. set-other s k j true (w .low) lo n;
         pending = λ j n. refl;
         own = λ lo hi. record {
@@ -151,16 +147,16 @@ module _ (a : View) (s : Session) (m : Model) (h : Faithful a s m) where
   open-outcome : (k f : ℕ) → MayOpen a s k f → Outcome a s m (openFile k f)
   unfolding plan
   open-outcome k f w = record {
-    cuts = prefix-pages a s 0 m (h .pages) (openPlan a k f) along;
+    cuts = prefix-pages m (h .pages) along;
     ends = λ n. own-matches 0 a (changedBy a (openPlan a k f)) s s m m h only
-        (end-pages a s 0 m (h .pages) (openPlan a k f) along) (h .marks);
+        (end-pages m (h .pages) along) (h .marks);
   }
     where
       along : KeptAlong a s 0 a (openPlan a k f)
       along = open-along a s k f w
       only : OnlyOwn 0 a (changedBy a (openPlan a k f)) s s m m
       only = record {
-        others = λ j o. end-kept a s 0 m (h .pages) (openPlan a k f) along .others j o .pending;
+        others = λ j o. along-end along .others j o .pending;
         marks = λ j lo n. refl;
         pending = λ j n. refl;
         own = λ lo hi. absurd (omega arith);
@@ -186,10 +182,10 @@ module _ (a : View) (s : Session) (m : Model) (h : Faithful a s m) where
     abort-outcome : Outcome a s m (abort k)
     unfolding plan
     abort-outcome = record {
-      cuts = prefix-pages a s k m (h .pages) (recovery false a k) along;
+      cuts = prefix-pages m (h .pages) along;
       ends = λ n. ended (changedBy a (recovery false a k)) (withPending m k noPending) (λ j. refl)
-          (λ j o. end-kept a s k m (h .pages) (recovery false a k) along .others j o .pending)
-          (end-pages a s k m (h .pages) (recovery false a k) along);
+          (λ j o. along-end along .others j o .pending)
+          (end-pages m (h .pages) along);
     }
       where
         along : KeptAlong a s k a (recovery false a k)
@@ -201,8 +197,8 @@ module _ (a : View) (s : Session) (m : Model) (h : Faithful a s m) where
     commit-outcome = record {
       cuts = cuts;
       ends = λ n. ended (changedBy b (recovery true a k)) (committed m k) (λ j. refl)
-          (λ j o. end-kept b s k (committed m k) decided (recovery true a k) along .others j o .pending ∙ rw (ne-eqb j k (o .other)))
-          (end-pages b s k (committed m k) decided (recovery true a k) along);
+          (λ j o. along-end along .others j o .pending ∙ rw (ne-eqb j k (o .other)))
+          (end-pages (committed m k) decided along);
     }
       where
         b : View
@@ -214,14 +210,14 @@ module _ (a : View) (s : Session) (m : Model) (h : Faithful a s m) where
             ∙ rw (h .pages f p i lt, h .tracked k (w .active .low) (w .active .high) .active (w .active .on))
         cuts : (n : ℕ) → PagesMatch (changedBy a (take n (plan a s (commit k)))) (effect m (commit k) (crashed n))
         cuts zero = h .pages
-        cuts (suc n) = rw (le-leb 1 (suc n) (omega arith)) (prefix-pages b s k (committed m k) decided (recovery true a k) along n)
+        cuts (suc n) = rw (le-leb 1 (suc n) (omega arith)) (prefix-pages (committed m k) decided along n)
 
   write-outcome : (k f p : ℕ) (d : Bytes) → MayWrite a s k f p d → Outcome a s m (write k f p d)
   unfolding plan
   write-outcome k f p d w = record {
-    cuts = prefix-pages a s k m (h .pages) xs along;
+    cuts = prefix-pages m (h .pages) along;
     ends = λ n. own-matches k a (changedBy a xs) s s m (withPending m k (withPage f p d (m .pending k))) h only
-        (end-pages a s k m (h .pages) xs along) (h .marks);
+        (end-pages m (h .pages) along) (h .marks);
   }
     where
       xs : List Update
@@ -234,7 +230,7 @@ module _ (a : View) (s : Session) (m : Model) (h : Faithful a s m) where
           (page-first (a .table) a (a .records k) (own-record a s k (w .place .act)) f p d (chosen a k f p) new (new-free a s k f p d w new .ungiven))
       only : OnlyOwn k a (changedBy a xs) s s m (withPending m k (withPage f p d (m .pending k)))
       only = record {
-        others = λ j o. end-kept a s k m (h .pages) xs along .others j o .pending;
+        others = λ j o. along-end along .others j o .pending;
         marks = λ j lo n. refl;
         pending = λ j n. rw (ne-eqb j k n);
         own = λ lo hi. record {
