@@ -5,3 +5,4 @@ pub mod PendingLaws
 pub mod RelationLaws
 pub mod CallLaws
 pub mod Theorem
+pub mod ReturnLaws

@@ -20,7 +20,7 @@ use Rattle.sector.proofs.CaseLaws.{by-equal, if-test}
 use Rattle.volume.specs.Places.{fileAt}
 use Rattle.volume.specs.Views.{View, Update, setRecord, changed, changedBy}
 use Rattle.volume.proofs.PlaceLaws.{IsFile}
-use Rattle.volume.proofs.AlongLaws.{along-take, along-end, changed-table}
+use Rattle.volume.proofs.AlongLaws.{along-take, along-end, changed-table, last-record}
 use Rattle.rules.specs.Sessions.{isActive, setActive, noneActive, isOrphaned}
 use Rattle.rules.specs.Recovery.{isDecided, recovery}
 use Rattle.rules.specs.Plans.{Call, begin, openFile, write, commit, abort, entryFor, chosen, beginPlan, openPlan, writePlan, plan, sessionAfter}
@@ -113,10 +113,6 @@ own-matches k a b s s′ m m′ h only pages marks = record { pages = pages; tra
 pub record Outcome (a : View) (s : Session) (m : Model) (c : Call) : Type 0 where
   pub cuts : (n : ℕ) → PagesMatch (changedBy a (take n (plan a s c))) (effect m c (crashed n))
   pub ends : (n : ℕ) → Matches (changedBy a (plan a s c)) (sessionAfter s c) (effect m c (done n))
-
-last-record : (xs : List Update) (a : View) (k : ℕ) (r : Record) → changedBy a (xs ++ (setRecord k r ∷ [])) .records k ≡ r
-last-record [] a k r = rw (eq-eqb k k refl)
-last-record (x ∷ xs) a k r = last-record xs (changed a x) k r
 
 module _ (a : View) (s : Session) (m : Model) (h : Faithful a s m) where
   begin-outcome : (k : ℕ) → MayBegin a s k → Outcome a s m (begin k)

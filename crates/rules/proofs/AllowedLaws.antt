@@ -6,7 +6,7 @@ use mathlib.Core.Logic.{_≢_}
 use Prim.Native.Nat.{ℕ, zero, suc, _≤_, _<_}
 use native.Mathlib.Nat.{not-suc-le-zero}
 use native.Mathlib.Omega.{arith}
-use borrow.Author.Tests.{eqb-true, ne-eqb, leb-true, ltb-true, not-false}
+use borrow.Author.Tests.{eqb-true, eq-eqb, ne-eqb, leb-true, le-leb, ltb-true, not-false}
 use lib.Dec.{eqb, leb}
 use lib.ListN.{length, getD}
 use Rattle.interface.specs.declared.Session.{Session}
@@ -14,9 +14,9 @@ use Rattle.sector.specs.Lists.{if_then_else_, first, every}
 use Rattle.sector.specs.Contents.{Bytes, File, Table, Entry, Record, Header}
 use Rattle.sector.specs.Entries.{forFile}
 use Rattle.sector.specs.Sectors.{Volume}
-use Rattle.sector.proofs.ListLaws.{and-left, and-right, or-right, all-at, every-from}
-use Rattle.sector.proofs.CaseLaws.{by-equal}
-use Rattle.sector.proofs.SearchLaws.{every-implies, first-none}
+use Rattle.sector.proofs.ListLaws.{and-left, and-right, or-right, all-nil, all-cons, all-at, every-from, every-all}
+use Rattle.sector.proofs.CaseLaws.{by-test, by-equal}
+use Rattle.sector.proofs.SearchLaws.{or-true, every-implies, first-none}
 use Rattle.volume.specs.Places.{isClient, isFile, fileAt}
 use Rattle.volume.specs.Views.{View}
 use Rattle.volume.specs.Lawful.{lawful}
@@ -75,6 +75,17 @@ ready a s l fits = record { laws = lawful-facts a l; runs = λ j w. running j (f
         (every-from (λ k. not (isActive s k) || markFits a k) 4 1 fits j (w .low) (omega arith)) (rw (w .on))
     running : (j : ℕ) → markFits a j ≡ true → Running a j
     running j e = record { client = leb-true _ _ (all-at _ 0 e); state = eqb-true _ _ (all-at _ 1 e); mine = all-at _ 2 e }
+
+-- A session whose marked clients have a transaction running fits.
+pub running-fits : (a : View) (s : Session) → ((j : ℕ) → Active s j → Running a j) → sessionFits a s ≡ true
+unfolding sessionFits markFits
+running-fits a s runs = every-all _ 4 1
+    (λ j lo hi. by-test (isActive s j)
+    (λ on. or-true (not (isActive s j)) (markFits a j) (fits j (runs j (record { low = lo; high = omega arith; on = on }))))
+    (λ off. rw off))
+  where
+    fits : (j : ℕ) → Running a j → markFits a j ≡ true
+    fits j r = all-cons _ (le-leb _ _ (r .client)) (all-cons _ (eq-eqb _ _ (r .state)) (all-cons _ (r .mine) all-nil))
 
 -- ------------------------------------------------------------------ each call
 -- Begin.

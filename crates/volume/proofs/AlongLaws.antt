@@ -1,9 +1,10 @@
 -- A claim about every view that a list of updates goes through: it holds after any prefix of them, and after all.
 use mathlib.Core.Path.{_≡_, refl}
-use mathlib.Core.List.{List, [], _∷_}
+use mathlib.Core.List.{List, [], _∷_, _++_}
 use Prim.Native.Nat.{ℕ, zero, suc}
+use borrow.Author.Tests.{eq-eqb}
 use lib.ListN.{take}
-use Rattle.sector.specs.Contents.{Table}
+use Rattle.sector.specs.Contents.{Table, Record}
 use Rattle.volume.specs.Views.{View, Update, setRecord, setHeader, setSlot, changed, changedBy}
 use Rattle.volume.proofs.ViewLaws.{Placed}
 use Rattle.volume.proofs.StoreLaws.{AllPlaced}
@@ -38,3 +39,8 @@ changed-table [] a = refl
 changed-table (setRecord k r ∷ xs) a = changed-table xs (changed a (setRecord k r))
 changed-table (setHeader f h ∷ xs) a = changed-table xs (changed a (setHeader f h))
 changed-table (setSlot f r d ∷ xs) a = changed-table xs (changed a (setSlot f r d))
+
+-- A record is what was set last.
+pub last-record : (xs : List Update) (a : View) (k : ℕ) (r : Record) → changedBy a (xs ++ (setRecord k r ∷ [])) .records k ≡ r
+last-record [] a k r = rw (eq-eqb k k refl)
+last-record (x ∷ xs) a k r = last-record xs (changed a x) k r
