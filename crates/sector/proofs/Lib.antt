@@ -3,3 +3,5 @@ pub mod SectorLaws
 pub mod CodecLaws
 pub mod PartLaws
 pub mod EditLaws
+pub mod CaseLaws
+pub mod SearchLaws

@@ -5,3 +5,7 @@ pub mod AccessLaws
 pub mod TableLaws
 pub mod KnownLaws
 pub mod ReadLaws
+pub mod LawfulLaws
+pub mod AlongLaws
+pub mod CanonicalLaws
+pub mod FormatLaws

@@ -1,0 +1,8 @@
+pub mod KeepLaws
+pub mod PlanLaws
+pub mod WriteLaws
+pub mod PendingLaws
+pub mod RelationLaws
+pub mod CallLaws
+pub mod Theorem
+pub mod ReturnLaws

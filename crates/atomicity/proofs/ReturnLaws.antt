@@ -1,0 +1,129 @@
+-- The session that a call hands back fits the volume that it leaves: every client that it marks has a transaction running.
+-- A client that was active and isn't the caller has its record and its files, as the call's updates leave them alone; the
+-- caller has, after begin an open record without entries, after write one entry more for a file that it holds.
+use mathlib.Core.Path.{_≡_, refl, sym, ap, _∙_, subst}
+use mathlib.Core.Bool.{Bool, true, false}
+use mathlib.Core.List.{List, [], _∷_, _++_}
+use mathlib.Core.Logic.{_≢_}
+use mathlib.Core.Option.{Option, none, some}
+use Prim.Native.Nat.{ℕ, _-_, _≤_}
+use native.Mathlib.Omega.{arith}
+use borrow.Author.Tests.{eqb-true, eq-eqb, ne-eqb}
+use lib.Dec.{eqb}
+use lib.ListN.{length, length-set}
+use Rattle.interface.specs.declared.Session.{Session}
+use Rattle.sector.specs.Lists.{if_then_else_, every}
+use Rattle.sector.specs.Contents.{Bytes, Table, Entry, Record, Header, openRecord}
+use Rattle.sector.proofs.ListLaws.{no-both}
+use Rattle.sector.proofs.CaseLaws.{by-equal}
+use Rattle.sector.proofs.SearchLaws.{every-implies, every-end}
+use Rattle.volume.specs.Views.{View, Update, setRecord, changed, changedBy}
+use Rattle.volume.proofs.AlongLaws.{along-end, changed-table, last-record}
+use Rattle.rules.specs.Sessions.{isActive, setActive, isOrphaned}
+use Rattle.rules.specs.Recovery.{isDecided, recovery}
+use Rattle.rules.specs.Plans.{Call, begin, openFile, write, commit, abort, entryFor, chosen, beginPlan, openPlan, writePlan, plan, sessionAfter}
+use Rattle.rules.proofs.SessionLaws.{set-same, set-other}
+use Rattle.rules.proofs.AllowedLaws.{Active, Others, Running, MayBegin, MayAct, MayOpen, MayWrite, Allowed}
+use Rattle.rules.proofs.RecoveryLaws.{decidedView}
+use Rattle.atomicity.proofs.KeepLaws.{Keeps}
+use Rattle.atomicity.proofs.PlanLaws.{KeptAlong, abort-along, begin-along, open-along}
+use Rattle.atomicity.proofs.WriteLaws.{commit-along}
+
+-- ------------------------------------------------------------------ clients that are left alone
+still-running : {a₀ a : View} {s : Session} {k : ℕ} → Keeps a₀ s k a → a .table ≡ a₀ .table → (j : ℕ) → Others s k j → Running a₀ j → Running a j
+still-running {a₀} {a} kept table j o r = record {
+  client = rw table (r .client);
+  state = ap (λ (x : Record). x .state) (kept .others j o .entries) ∙ r .state;
+  mine = rw (kept .others j o .entries)
+      (every-implies (λ e. eqb (a₀ .headers (e .file) .holder) j) (λ e. eqb (a .headers (e .file) .holder) j)
+      (λ e h. eq-eqb _ _ (kept .others j o .holds (e .file) (eqb-true _ _ h))) (a₀ .records j .entries) (r .mine));
+}
+
+along-running : {a₀ : View} {s : Session} {k : ℕ} (xs : List Update) → KeptAlong a₀ s k a₀ xs → (j : ℕ) → Others s k j → Running a₀ j → Running (changedBy a₀ xs) j
+along-running {a₀} xs along = still-running (along-end along) (changed-table xs a₀)
+
+-- ------------------------------------------------------------------ each call
+module _ (a : View) (s : Session) (marks : length (s .active) ≡ 4) where
+  -- A client other than k that is marked after k's mark was set.
+  other-of : (k j : ℕ) (b : Bool) → 1 ≤ k → Active (setActive s k b) j → j ≢ k → Others s k j
+  other-of k j b lo w n =
+      let x : Active s j = record { low = w .low; high = w .high; on = sym (set-other s k j b lo (w .low) n) ∙ w .on } in
+      record { active = x; other = n }
+
+  begin-runs : (k : ℕ) → MayBegin a s k → (j : ℕ) → Active (setActive s k true) j → Running (changedBy a (beginPlan a s k)) j
+  unfolding beginPlan
+  begin-runs k w j x = by-equal j k (λ e. rw e own)
+      (λ n. let o = other-of k j true (w .low) x n in along-running (beginPlan a s k) (begin-along a s k w) j o (w .ready .runs j (o .active)))
+    where
+      end : View
+      end = changedBy a (beginPlan a s k)
+
+      opened : changedBy a (beginPlan a s k) .records k ≡ openRecord
+      opened = last-record (if isOrphaned a s k then recovery (isDecided a k) a k else []) a k openRecord
+
+      own : Running (changedBy a (beginPlan a s k)) k
+      own = record {
+        client = rw (changed-table (beginPlan a s k) a) (w .high);
+        state = ap (λ (r : Record). r .state) opened;
+        mine = ap (λ (r : Record). every (λ e. eqb (end .headers (e .file) .holder) k) (r .entries)) opened;
+      }
+
+  open-runs : (k f : ℕ) → MayOpen a s k f → (j : ℕ) → Active s j → Running (changedBy a (openPlan a k f)) j
+  open-runs k f w j x =
+      along-running (openPlan a k f) (open-along a s k f w) j (record { active = x; other = omega (arith, x .low) }) (w .act .ready .runs j x)
+
+  write-runs : (k f p : ℕ) (d : Bytes) → MayWrite a s k f p d → (o : Option Entry) → (j : ℕ) → Active s j
+      → Running (changedBy a (writePlan a k f p d o)) j
+  write-runs k f p d w (some e) j x =
+      let r : Running a j = w .place .act .ready .runs j x in
+      record { client = r .client; state = r .state; mine = r .mine }
+  write-runs k f p d w none j x = by-equal j k (λ e. rw e own) other
+    where
+      mine : Running a k
+      mine = w .place .act .running
+
+      own : Running (changedBy a (writePlan a k f p d none)) k
+      own = record {
+        client = mine .client;
+        state = rw (eq-eqb k k refl) (mine .state);
+        mine = rw (eq-eqb k k refl) (every-end (λ e. eqb (a .headers (e .file) .holder) k) (a .records k .entries)
+            (record { file = f; page = p; slot = chosen a k f p }) (mine .mine) (eq-eqb _ _ (w .place .holder)));
+      }
+
+      other : j ≢ k → Running (changedBy a (writePlan a k f p d none)) j
+      other n =
+          let r : Running a j = w .place .act .ready .runs j x in
+          record { client = r .client; state = rw (ne-eqb j k n) (r .state); mine = rw (ne-eqb j k n) (r .mine) }
+
+  -- Commit and abort.
+  ended-runs : (k : ℕ) → MayAct a s k → (b : View) → ((j : ℕ) → Others s k j → Running b j)
+      → (j : ℕ) → Active (setActive s k false) j → Running b j
+  ended-runs k w b h j x = by-equal j k
+      (λ e. no-both _ (rw e at (x .on)) (set-same s k false marks (w .active .low) (w .active .high)))
+      (λ n. h j (other-of k j false (w .active .low) x n))
+
+  abort-runs : (k : ℕ) → MayAct a s k → (j : ℕ) → Active (setActive s k false) j → Running (changedBy a (recovery false a k)) j
+  abort-runs k w = ended-runs k w _ (λ j o. along-running _ (abort-along a s k w) j o (w .ready .runs j (o .active)))
+
+  commit-runs : (k : ℕ) → MayAct a s k → (j : ℕ) → Active (setActive s k false) j → Running (changedBy (decidedView a k) (recovery true a k)) j
+  commit-runs k w = ended-runs k w _ (λ j o. along-running _ (commit-along a s k w) j o (decided j o))
+    where
+      decided : (j : ℕ) → Others s k j → Running (decidedView a k) j
+      decided j o =
+          let r : Running a j = w .ready .runs j (o .active) in
+          record { client = r .client; state = rw (ne-eqb j k (o .other)) (r .state); mine = rw (ne-eqb j k (o .other)) (r .mine) }
+
+  pub returned-runs : (c : Call) → Allowed a s c → (j : ℕ) → Active (sessionAfter s c) j → Running (changedBy a (plan a s c)) j
+  unfolding plan
+  returned-runs (begin k) w = begin-runs k w
+  returned-runs (openFile k f) w = open-runs k f w
+  returned-runs (write k f p d) w = write-runs k f p d w (entryFor a k f p)
+  returned-runs (commit k) w = commit-runs k w
+  returned-runs (abort k) w = abort-runs k w
+
+  pub returned-marks : (c : Call) → length (sessionAfter s c .active) ≡ 4
+  returned-marks (begin k) = length-set (s .active) (k - 1) true ∙ marks
+  returned-marks (openFile k f) = marks
+  returned-marks (write k f p d) = marks
+  returned-marks (commit k) = length-set (s .active) (k - 1) false ∙ marks
+  returned-marks (abort k) = length-set (s .active) (k - 1) false ∙ marks
