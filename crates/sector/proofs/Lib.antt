@@ -5,3 +5,4 @@ pub mod PartLaws
 pub mod EditLaws
 pub mod CaseLaws
 pub mod SearchLaws
+pub mod TestLaws
