@@ -31,7 +31,7 @@ table-back t =
     let n : t .sectors % 256 + 256 * (t .sectors / 256) ≡ t .sectors = omega arith in
     table-path (t .clients) n (files-back (t .clients + 1) (t .files) _)
 
-files-length : (h : ℕ) (xs : List File) → length (fileBytes h xs) ≡ 4 * length xs
+pub files-length : (h : ℕ) (xs : List File) → length (fileBytes h xs) ≡ 4 * length xs
 unfolding fileBytes
 files-length h [] = refl
 files-length h (x ∷ xs) = omega (arith, files-length (h + 1 + x .slots) xs)
@@ -50,7 +50,7 @@ pub record-back : (r : Record) → decodeRecord (encodeRecord r) ≡ r
 unfolding decodeRecord encodeRecord padded
 record-back r = ap (λ (l : List Entry). record { state = r .state; entries = l }) (entries-back (r .entries) _)
 
-entries-length : (es : List Entry) → length (entryBytes es) ≡ 4 * length es
+pub entries-length : (es : List Entry) → length (entryBytes es) ≡ 4 * length es
 unfolding entryBytes
 entries-length [] = refl
 entries-length (e ∷ es) = omega (arith, entries-length es)
