@@ -1,0 +1,9 @@
+pub mod TestLaws
+pub mod BytesLaws
+pub mod SetLaws
+pub mod DecodingLaws
+pub mod TableLaws
+pub mod RecordLaws
+pub mod MapLaws
+pub mod HeaderLaws
+pub mod SoundLaws

@@ -1,0 +1,40 @@
+-- `byteset::add` meets its contract: the code's store is that of `withByte`.
+use borrow.Author.Needs.{needs}
+use lib.ListN.{length-set}
+use Rattle.soundness.specs.Set.{withByte}
+use Rattle.soundness.proofs.byteset.add.Statement.{statement}
+use Rattle.soundness.proofs.byteset.add.Tie as tie
+
+index-requires : tie.Need-index-requires
+index-requires c κs = search needs
+
+mask-requires : tie.Need-mask-requires
+mask-requires c κs = search needs
+
+mul-seen : tie.Need-mul-seen
+mul-seen c = search needs
+
+element-copy-out-seen : tie.Need-element-copy-out-seen
+element-copy-out-seen c = search needs
+
+mul-seen-2 : tie.Need-mul-seen-2
+mul-seen-2 c = search needs
+
+element-write-seen : tie.Need-element-write-seen
+element-write-seen c = search needs
+
+returns : tie.Need-returns
+unfolding withByte
+returns c = (rw (c .before .before .index .ensures .0, c .before .mask .ensures), simp length-set (c .before .before .before .pre))
+
+pub add-spec : {M : Type 1} → statement M
+add-spec =
+    tie.close
+    (tie.spec
+    index-requires
+    mask-requires
+    mul-seen
+    element-copy-out-seen
+    mul-seen-2
+    element-write-seen
+    returns)

@@ -1,0 +1,25 @@
+-- `byteset::has` meets its contract: the code's expression is that of `hasByte`.
+use borrow.Author.Needs.{needs}
+use Rattle.soundness.specs.Set.{hasByte}
+use Rattle.soundness.proofs.byteset.has.Statement.{statement}
+use Rattle.soundness.proofs.byteset.has.Tie as tie
+
+index-requires : tie.Need-index-requires
+index-requires c κs = search needs
+
+mul-result : tie.Need-mul-result
+mul-result c = search needs
+
+element-copy-out-result : tie.Need-element-copy-out-result
+element-copy-out-result c = search needs
+
+mask-requires : tie.Need-mask-requires
+mask-requires c κs = search needs
+
+returns : tie.Need-returns
+unfolding hasByte
+returns c = rw (c .before .before .index .ensures .0, c .mask .ensures)
+
+pub has-spec : {M : Type 1} → statement M
+has-spec =
+    tie.close (tie.spec index-requires mul-result element-copy-out-result mask-requires returns)

@@ -1,0 +1,122 @@
+-- `is_sound` meets its contract: the tests of `soundTest`, in order. Each asks for what those before it have shown.
+use borrow.Author.Needs.{needs}
+use mathlib.Core.Path.{_≡_, sym, _∙_}
+use Prim.Native.Nat.{_*_}
+use borrow.Author.Tests.{not-true, not-false}
+use lib.ListN.{length}
+use Rattle.sector.specs.Sectors.{word}
+use Rattle.soundness.proofs.SoundLaws.{few-files, few-clients, records-inside, tested, short-no, table-no, size-no, records-no, sound-last}
+use Rattle.soundness.proofs.is_sound.Statement.{statement}
+use Rattle.soundness.proofs.is_sound.Tie as tie
+
+returns : tie.Need-returns
+returns c = sym (short-no (c .before .before .args .v .now) (c .if1 .taken))
+
+sector-at-requires : tie.Need-sector-at-requires
+sector-at-requires c κs = search needs
+
+table-is-sound-requires : tie.Need-table-is-sound-requires
+table-is-sound-requires c κs = search needs
+
+returns-2 : tie.Need-returns-2
+returns-2 c =
+    let p = c .before .before in
+    let no = sym (c .before .table-is-sound .ensures) ∙ not-true _ (c .if2 .taken) in
+    sym (table-no (p .before .before .before .args .v .now) _ (p .sector-at .ensures .0) no)
+
+word-at-requires : tie.Need-word-at-requires
+word-at-requires c κs = search needs
+
+mul-if3 : tie.Need-mul-if3
+mul-if3 c = search needs
+
+returns-3 : tie.Need-returns-3
+returns-3 c =
+    let m = c .before in
+    let p = m .before .before .before in
+    sym (size-no (p .before .before .before .args .v .now) _ (p .sector-at .ensures .0) _ (m .word-at .ensures .0) (c .if3 .taken))
+
+shared-slice-read-size : tie.Need-shared-slice-read-size
+shared-slice-read-size c = search needs
+
+size-requires : tie.Need-size-requires
+size-requires c κs = search needs
+
+records-are-sound-requires : tie.Need-records-are-sound-requires
+records-are-sound-requires c κs =
+    let e3 = c .before .before in
+    let m = e3 .before in
+    let e2 = m .before in
+    let p = e2 .before .before in
+    let v = p .before .before .before .args .v .now in
+    let tb = p .sector-at .result .now in
+    let ok = sym (e2 .before .table-is-sound .ensures) ∙ not-false _ (e2 .if2 .left) in
+    let sized : length v ≡ 256 * word tb 2 = rw (m .word-at .ensures .0) at (e3 .if3 .left) in
+    let inside = records-inside v tb ok sized in
+    let few = few-clients v tb ok sized in
+    (p .sector-at .ensures .1, few-files v tb ok sized, rw (c .size .ensures .0) few, rw (c .size .ensures .0) inside)
+
+returns-4 : tie.Need-returns-4
+returns-4 c =
+    let z = c .before .before in
+    let p = z .before .before .before .before .before .before in
+    let no = sym (c .before .records-are-sound .ensures) ∙ not-true _ (c .if4 .taken) in
+    sym (records-no (p .before .before .before .args .v .now) _ (p .sector-at .ensures .0) _ (z .size .ensures .0) no)
+
+shared-slice-read-size-2 : tie.Need-shared-slice-read-size-2
+shared-slice-read-size-2 c = search needs
+
+size-requires-2 : tie.Need-size-requires-2
+size-requires-2 c κs = search needs
+
+headers-are-sound-requires : tie.Need-headers-are-sound-requires
+headers-are-sound-requires c κs =
+    let e4 = c .before .before in
+    let z = e4 .before .before in
+    let e3 = z .before .before in
+    let m = e3 .before in
+    let e2 = m .before in
+    let p = e2 .before .before in
+    let v = p .before .before .before .args .v .now in
+    let tb = p .sector-at .result .now in
+    let ok = sym (e2 .before .table-is-sound .ensures) ∙ not-false _ (e2 .if2 .left) in
+    let sized : length v ≡ 256 * word tb 2 = rw (m .word-at .ensures .0) at (e3 .if3 .left) in
+    let recs = rw (z .size .ensures .0) at (sym (e4 .before .records-are-sound .ensures) ∙ not-false _ (e4 .if4 .left)) in
+    (tested v tb ok sized (p .sector-at .ensures .1) recs, c .size2 .ensures .0)
+
+returns-5 : tie.Need-returns-5
+returns-5 c =
+    let z2 = c .before in
+    let e4 = z2 .before .before in
+    let z = e4 .before .before in
+    let e3 = z .before .before in
+    let m = e3 .before in
+    let e2 = m .before in
+    let p = e2 .before .before in
+    let v = p .before .before .before .args .v .now in
+    let tb = p .sector-at .result .now in
+    let ok = sym (e2 .before .table-is-sound .ensures) ∙ not-false _ (e2 .if2 .left) in
+    let recs = sym (e4 .before .records-are-sound .ensures) ∙ not-false _ (e4 .if4 .left) in
+    c .headers-are-sound .ensures
+    ∙ sound-last v tb (p .sector-at .ensures .0) _ _ _ (m .word-at .ensures .0) (z .size .ensures .0) (z2 .size2 .ensures .0)
+    (p .before .if1 .left) ok (e3 .if3 .left) recs
+
+pub is-sound-spec : {M : Type 1} → statement M
+is-sound-spec =
+    tie.close
+    (tie.spec
+    returns
+    sector-at-requires
+    table-is-sound-requires
+    returns-2
+    word-at-requires
+    mul-if3
+    returns-3
+    shared-slice-read-size
+    size-requires
+    records-are-sound-requires
+    returns-4
+    shared-slice-read-size-2
+    size-requires-2
+    headers-are-sound-requires
+    returns-5)

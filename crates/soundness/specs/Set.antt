@@ -1,0 +1,25 @@
+-- A set of bytes in four words of 64 bits: byte x is bit x % 64 of word x / 64.
+use mathlib.Core.Path.{_≡_}
+use mathlib.Core.Bool.{Bool, not}
+use mathlib.Core.List.{List, [], _∷_}
+use Prim.Native.Nat.{ℕ, _/_, _%_, _^_}
+use lib.Bits.{bitAnd, bitOr}
+use lib.Dec.{eqb}
+use lib.ListN.{getD, set}
+use Rattle.sector.specs.Lists.{member}
+
+-- The empty set.
+abbrev pub noBytes : List ℕ
+noBytes = 0 ∷ 0 ∷ 0 ∷ 0 ∷ []
+
+-- Byte x is in the set.
+unfoldable pub hasByte : List ℕ → ℕ → Bool
+hasByte s x = not (eqb (bitAnd (getD s (x / 64) 0) (2 ^ (x % 64))) 0)
+
+-- The set with byte x in it.
+unfoldable pub withByte : List ℕ → ℕ → List ℕ
+withByte s x = set s (x / 64) (bitOr (getD s (x / 64) 0) (2 ^ (x % 64)))
+
+-- The set has the members of the list, and no others.
+abbrev pub Holds : List ℕ → List ℕ → Type 0
+Holds s m = (y : ℕ) → hasByte s y ≡ member y m

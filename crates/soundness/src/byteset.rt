@@ -1,0 +1,46 @@
+// A set of bytes in four words of 64 bits: byte x is bit x % 64 of word x / 64.
+use crate::bytes::size;
+ghost use mathlib.Core.Path.{_≡_};
+ghost use Prim.Native.Nat.{_/_, _%_, _^_, _<_};
+ghost use lib.ListN.{length};
+ghost use Rattle.soundness.specs.Set.{hasByte, withByte};
+
+// The byte as a word.
+fn wide(x: u8) -> u64
+    ensures { λ r. ⌜ (r ≡ x) × (r < 256) ⌝ }
+{
+    x as u64
+}
+
+// The word that has only the bit of byte x.
+fn mask(x: u8) -> u64
+    ensures { λ r. ⌜ r ≡ 2 ^ (x % 64) ⌝ }
+{
+    1u64 << wide(x % 64)
+}
+
+// Which of the four words has byte x.
+fn index(x: u8) -> usize
+    ensures { λ r. ⌜ (r ≡ x / 64) × (r < 4) ⌝ }
+{
+    size(x / 64)
+}
+
+// Whether byte x is in the set.
+pub fn has(seen: &[u64; 4], x: u8) -> bool
+    requires { ⌜ length (now seen) ≡ 4 ⌝ }
+    ensures { λ r. ⌜ r ≡ hasByte (now (seen .entry)) x ⌝ }
+{
+    let i = index(x);
+    seen[i] & mask(x) != 0
+}
+
+// Puts byte x into the set.
+pub fn add(seen: &mut [u64; 4], x: u8)
+    requires { ⌜ length (now seen) ≡ 4 ⌝ }
+    ensures { λ _. ⌜ (now (seen .exit) ≡ withByte (now (seen .entry)) x) × (length (now (seen .exit)) ≡ 4) ⌝ }
+{
+    let i = index(x);
+    let m = mask(x);
+    seen[i] = seen[i] | m;
+}
