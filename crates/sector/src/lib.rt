@@ -26,6 +26,7 @@ pub use read::size;
 pub use read::table_clients;
 pub use read::table_files;
 pub use read::table_sectors;
+pub use read::word_at;
 pub use write::store;
 
 // What every sector has in common.

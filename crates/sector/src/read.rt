@@ -2,7 +2,7 @@
 ghost use mathlib.Core.Path.{_≡_};
 ghost use Prim.Native.Nat.{_+_, _*_, _≤_, _<_};
 ghost use lib.ListN.{length};
-ghost use Rattle.sector.specs.Sectors.{sector, word};
+ghost use Rattle.sector.specs.Sectors.{sector, byte, word};
 ghost use Rattle.sector.specs.Decoding.{sectorsIn, clientsIn, fileCountIn, headerSectorIn, fileIn, stateIn, countIn, entryIn, holderIn, mapIn};
 use crate::Sector;
 
@@ -24,9 +24,9 @@ pub fn size(x: u8) -> usize
 }
 
 // The two-byte number at i.
-fn word_at(d: &[u8], i: usize) -> usize
+pub fn word_at(d: &[u8], i: usize) -> usize
     requires { ⌜ (length (now d) ≡ 256) × (i < 255) ⌝ }
-    ensures { λ r. ⌜ (r ≡ word (now (d .entry)) i) × (r < 65536) ⌝ }
+    ensures { λ r. ⌜ (r ≡ word (now (d .entry)) i) × (r < 65536) × (byte (now (d .entry)) i < 256) ⌝ }
 {
     size(d[i]) + 256 * size(d[i + 1])
 }

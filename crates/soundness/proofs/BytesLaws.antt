@@ -16,7 +16,7 @@ use Rattle.sector.specs.Sectors.{Volume, sector}
 use Rattle.sector.proofs.ListLaws.{and-left, and-right, and-both}
 use Rattle.sector.proofs.SectorLaws.{sector-length}
 use Rattle.soundness.specs.Bytes.{allZero}
-use Rattle.soundness.proofs.TestLaws.{iff, drop-next}
+use Rattle.sector.proofs.TestLaws.{iff, drop-next}
 
 -- ------------------------------------------------------------------ zero bytes
 or-zero : (a b : ℕ) → eqb (bitOr a b) 0 ≡ (eqb a 0 && eqb b 0)

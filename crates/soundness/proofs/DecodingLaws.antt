@@ -11,13 +11,13 @@ use borrow.Author.Tests.{eq-eqb}
 use lib.Dec.{eqb}
 use lib.ListN.{length, getD, drop, drop-of-length-le}
 use lib.Seq.{drop-cons, drop-drop, getD-drop}
+use Rattle.sector.proofs.CodecLaws.{decode-entries-length, entry-at, decode-files-length, file-at}
 use Rattle.sector.specs.Contents.{Bytes, File, Entry}
 use Rattle.sector.specs.Sectors.{byte}
-use Rattle.sector.specs.Decoding.{decodeFiles, decodeTable, decodeEntries}
+use Rattle.sector.specs.Decoding.{decodeFiles, decodeTable, decodeEntries, entryIn, fileIn}
 use Rattle.volume.specs.Places.{noFile, fileAt}
-use Rattle.soundness.specs.Table.{fileIn}
-use Rattle.soundness.specs.Record.{entryIn, entriesIn}
-use Rattle.soundness.proofs.TestLaws.{drop-next}
+use Rattle.soundness.specs.Record.{entriesIn}
+use Rattle.sector.proofs.TestLaws.{drop-next}
 
 -- ------------------------------------------------------------------ the first bytes
 pub same-self : (x : ℕ) (b : Bool) → (eqb x x && b) ≡ b
@@ -38,15 +38,6 @@ module _ (d : Bytes) where
       (first-four (omega arith))
 
 -- ------------------------------------------------------------------ the entries of a record
-pub entries-count : (n : ℕ) (l : Bytes) → length (decodeEntries n l) ≡ n
-unfolding decodeEntries
-entries-count zero l = refl
-entries-count (suc n) l = ap suc (entries-count n (drop 4 l))
-
--- What stands for an entry that there isn't.
-noEntry : Entry
-noEntry = record { file = 0; page = 0; slot = 0 }
-
 -- The entry in the first four bytes.
 abbrev pub firstEntry : Bytes → Entry
 firstEntry l = record { file = byte l 0; page = byte l 1; slot = byte l 2 }
@@ -57,38 +48,22 @@ first-entry d i =
     let f : byte (drop (8 + 4 * i) d) 0 ≡ byte d (8 + 4 * i) = getD-drop (8 + 4 * i) d 0 0 ∙ ap (byte d) z in
     λ k. record { file = f k; page = getD-drop (8 + 4 * i) d 1 0 k; slot = getD-drop (8 + 4 * i) d 2 0 k }
 
-decoded-entry : (n : ℕ) (l : Bytes) (i : ℕ) → i < n → getD (decodeEntries n l) i noEntry ≡ firstEntry (drop (4 * i) l)
-unfolding decodeEntries
-decoded-entry zero l i h = absurd (not-suc-le-zero h)
-decoded-entry (suc n) l zero h = refl
-decoded-entry (suc n) l (suc i) h =
-    let m : 4 + 4 * i ≡ 4 * suc i = omega arith in
-    decoded-entry n (drop 4 l) i (le-of-suc-le-suc h) ∙ ap firstEntry (drop-drop (4 * i) 4 l ∙ ap (λ (k : ℕ). drop k l) m)
-
 -- A loop over the n entries: the one that a turn takes off, and the end.
 module _ (d : Bytes) (n : ℕ) (e : n ≡ byte d 3) where
   entries-are : length (entriesIn d) ≡ n
   unfolding entriesIn
-  entries-are = entries-count (byte d 3) (drop 8 d) ∙ sym e
-
-  entry-is : (i : ℕ) → i < n → getD (entriesIn d) i noEntry ≡ entryIn d i
-  unfolding entriesIn
-  entry-is i h =
-      decoded-entry (byte d 3) (drop 8 d) i (omega (arith, e, h)) ∙ ap firstEntry (drop-drop (4 * i) 8 d) ∙ first-entry d i
+  entries-are = decode-entries-length (byte d 3) (drop 8 d) ∙ sym e
 
   pub next-entry : (i : ℕ) → i < n → drop i (entriesIn d) ≡ entryIn d i ∷ drop (i + 1) (entriesIn d)
+  unfolding entriesIn
   next-entry i h =
-      drop-next (entriesIn d) i noEntry (rw entries-are h) ∙ ap (λ (x : Entry). x ∷ drop (i + 1) (entriesIn d)) (entry-is i h)
+      drop-next (entriesIn d) i (entryIn d i) (rw entries-are h)
+      ∙ ap (λ (x : Entry). x ∷ drop (i + 1) (entriesIn d)) (entry-at (byte d 3) d i (entryIn d i) (rw e at h))
 
   pub no-entry : (i : ℕ) → n ≤ i → drop i (entriesIn d) ≡ []
   no-entry i h = drop-of-length-le (entriesIn d) {i = i} (rw entries-are h)
 
 -- ------------------------------------------------------------------ the files of the table
-pub files-count : (n : ℕ) (l : Bytes) → length (decodeFiles n l) ≡ n
-unfolding decodeFiles
-files-count zero l = refl
-files-count (suc n) l = ap suc (files-count n (drop 4 l))
-
 -- The file in the first four bytes.
 abbrev pub firstFile : Bytes → File
 firstFile l = record { pages = byte l 2; slots = byte l 3 }
@@ -96,20 +71,11 @@ firstFile l = record { pages = byte l 2; slots = byte l 3 }
 pub first-file : (d : Bytes) (i : ℕ) → firstFile (drop (8 + 4 * i) d) ≡ fileIn d i
 first-file d i = λ k. record { pages = getD-drop (8 + 4 * i) d 2 0 k; slots = getD-drop (8 + 4 * i) d 3 0 k }
 
-decoded-file : (n : ℕ) (l : Bytes) (i : ℕ) → i < n → getD (decodeFiles n l) i noFile ≡ firstFile (drop (4 * i) l)
-unfolding decodeFiles
-decoded-file zero l i h = absurd (not-suc-le-zero h)
-decoded-file (suc n) l zero h = refl
-decoded-file (suc n) l (suc i) h =
-    let m : 4 + 4 * i ≡ 4 * suc i = omega arith in
-    decoded-file n (drop 4 l) i (le-of-suc-le-suc h) ∙ ap firstFile (drop-drop (4 * i) 4 l ∙ ap (λ (k : ℕ). drop k l) m)
-
 module _ (tb : Bytes) where
   pub files-are : length (decodeTable tb .files) ≡ byte tb 5
   unfolding decodeTable
-  files-are = files-count (byte tb 5) (drop 8 tb)
+  files-are = decode-files-length (byte tb 5) (drop 8 tb)
 
   pub file-is : (f : ℕ) → 1 ≤ f → f ≤ byte tb 5 → fileAt (decodeTable tb) f ≡ fileIn tb (f - 1)
   unfolding decodeTable
-  file-is f lo hi =
-      decoded-file (byte tb 5) (drop 8 tb) (f - 1) (omega arith) ∙ ap firstFile (drop-drop (4 * (f - 1)) 8 tb) ∙ first-file tb (f - 1)
+  file-is f lo hi = file-at (byte tb 5) tb (f - 1) noFile (omega arith)

@@ -19,16 +19,16 @@ use Rattle.sector.specs.Encoding.{encodeHeader}
 use Rattle.sector.specs.Decoding.{decodeTable, decodeRecord, decodeHeader}
 use Rattle.sector.proofs.ListLaws.{and-left, and-right, and-both, no-both, all-at}
 use Rattle.volume.specs.Places.{fileAt, headerSector}
-use Rattle.volume.specs.Views.{forFile}
+use Rattle.sector.specs.Entries.{forFile}
 use Rattle.volume.specs.Lawful.{apart, headerFits}
 use Rattle.volume.specs.Volumes.{bytesAt, recordIn}
 use Rattle.volume.specs.Sound.{isHeaderEncoding}
 use Rattle.volume.proofs.PlaceLaws.{is-client}
 use Rattle.soundness.specs.Bytes.{allZero, marked}
-use Rattle.soundness.specs.Set.{hasByte, Holds}
+use Rattle.byteset.specs.Set.{hasByte, Holds}
 use Rattle.soundness.specs.Record.{entriesIn}
-use Rattle.soundness.specs.Header.{mapIn, mapFits, headerHeadTest, fileWith, bodyTest, bodySound, slotsApart, holderTest, headerSound}
-use Rattle.soundness.proofs.TestLaws.{iff, or-and-same, all-no, all-of, all-last, none, _also_, final, _then_}
+use Rattle.soundness.specs.Header.{mapBytes, mapFits, headerHeadTest, fileWith, bodyTest, bodySound, slotsApart, holderTest, headerSound}
+use Rattle.sector.proofs.TestLaws.{iff, or-and-same, all-no, all-of, all-last, none, _also_, final, _then_}
 use Rattle.soundness.proofs.BytesLaws.{same-padding}
 use Rattle.soundness.proofs.DecodingLaws.{same-self, first-eight, file-is}
 use Rattle.soundness.proofs.MapLaws.{map-length}
@@ -80,11 +80,11 @@ module _ (x : File) (d : Bytes) (len : length d ≡ 256) (few : x .pages ≤ 120
   unfolding bodyTest
   head-no e = sym body-is ∙ all-no _ 0 e
 
-  pub map-no : mapFits (x .slots) (mapIn (x .pages) d) ≡ false → bodySound x d ≡ false
+  pub map-no : mapFits (x .slots) (mapBytes (x .pages) d) ≡ false → bodySound x d ≡ false
   unfolding bodyTest
   map-no e = sym body-is ∙ all-no _ 1 e
 
-  pub body-last : headerHeadTest d ≡ true → mapFits (x .slots) (mapIn (x .pages) d) ≡ true
+  pub body-last : headerHeadTest d ≡ true → mapFits (x .slots) (mapBytes (x .pages) d) ≡ true
       → allZero (drop (8 + x .pages) d) ≡ bodySound x d
   unfolding bodyTest
   body-last a b = sym (sym body-is ∙ all-last (a then b then final))
@@ -114,7 +114,7 @@ module _ (v : Volume) (t : Table) (f : ℕ) (d : Bytes) (len : length d ≡ 256)
   x = fileAt t f
 
   abbrev m : List ℕ
-  m = mapIn (x .pages) d
+  m = mapBytes (x .pages) d
 
   abbrev recs : ℕ → Record
   recs = recordIn t (bytesAt t v)
@@ -188,7 +188,7 @@ module _ (v : Volume) (tb : Bytes) (f : ℕ) (lo : 1 ≤ f) (hi : f ≤ byte tb 
   pub header-no : bodySound file d ≡ false → headerSound t v f ≡ false
   header-no e = sound-is-whole ∙ whole-no v t f d len few-pages (rw file-at e)
 
-  pub header-last : bodySound file d ≡ true → (s : List ℕ) → Holds s (mapIn P d)
+  pub header-last : bodySound file d ≡ true → (s : List ℕ) → Holds s (mapBytes P d)
       → headerSound t v f ≡ holderTest v (byte tb 4) (byte d 2) f s
   unfolding decodeTable
   header-last e s hs = sound-is-whole ∙ whole-is v t f d len few-pages s (rw file-at e) (rw file-at hs)

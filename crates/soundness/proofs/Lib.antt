@@ -1,6 +1,4 @@
-pub mod TestLaws
 pub mod BytesLaws
-pub mod SetLaws
 pub mod DecodingLaws
 pub mod TableLaws
 pub mod RecordLaws

@@ -13,10 +13,10 @@ use lib.Seq.{getD-drop, getD-take, length-take-le}
 use Rattle.sector.specs.Lists.{every, any, distinct, member}
 use Rattle.sector.specs.Contents.{Bytes}
 use Rattle.sector.specs.Sectors.{byte}
-use Rattle.soundness.specs.Set.{noBytes, hasByte, withByte, Holds}
-use Rattle.soundness.specs.Header.{mapIn, mapFits, freshIn}
-use Rattle.soundness.proofs.TestLaws.{iff, drop-next}
-use Rattle.soundness.proofs.SetLaws.{has-none, has-with}
+use Rattle.byteset.specs.Set.{noBytes, hasByte, withByte, Holds}
+use Rattle.soundness.specs.Header.{mapBytes, mapFits, freshIn}
+use Rattle.sector.proofs.TestLaws.{iff, drop-next}
+use Rattle.byteset.proofs.SetLaws.{has-none, has-with}
 
 -- ------------------------------------------------------------------ fresh bytes are bytes that fit and are distinct
 eqb-flip : (x y : ℕ) → eqb x y ≡ eqb y x
@@ -107,13 +107,13 @@ module _ (R : ℕ) (l : List ℕ) where
 
 -- ------------------------------------------------------------------ the map, as read
 module _ (P : ℕ) (d : Bytes) (len : length d ≡ 256) (few : P ≤ 120) where
-  pub map-length : length (mapIn P d) ≡ P
+  pub map-length : length (mapBytes P d) ≡ P
   map-length = length-take-le P (drop 8 d) (rw (length-drop 8 d) (omega arith))
 
-  pub next-byte : (i : ℕ) → i < P → drop i (mapIn P d) ≡ byte d (8 + i) ∷ drop (i + 1) (mapIn P d)
+  pub next-byte : (i : ℕ) → i < P → drop i (mapBytes P d) ≡ byte d (8 + i) ∷ drop (i + 1) (mapBytes P d)
   next-byte i h =
-      drop-next (mapIn P d) i 0 (rw map-length h)
-      ∙ ap (λ (x : ℕ). x ∷ drop (i + 1) (mapIn P d)) (getD-take P (drop 8 d) i 0 h ∙ getD-drop 8 d i 0)
+      drop-next (mapBytes P d) i 0 (rw map-length h)
+      ∙ ap (λ (x : ℕ). x ∷ drop (i + 1) (mapBytes P d)) (getD-take P (drop 8 d) i 0 h ∙ getD-drop 8 d i 0)
 
-  pub no-byte : (i : ℕ) → P ≤ i → drop i (mapIn P d) ≡ []
-  no-byte i h = drop-of-length-le (mapIn P d) {i = i} (rw map-length h)
+  pub no-byte : (i : ℕ) → P ≤ i → drop i (mapBytes P d) ≡ []
+  no-byte i h = drop-of-length-le (mapBytes P d) {i = i} (rw map-length h)

@@ -15,17 +15,17 @@ use Rattle.sector.specs.Lists.{all, every, any, distinct, from, same}
 use Rattle.sector.specs.Contents.{Bytes, Table, Entry}
 use Rattle.sector.specs.Sectors.{byte, padded}
 use Rattle.sector.specs.Encoding.{entryBytes, encodeRecord}
-use Rattle.sector.specs.Decoding.{decodeEntries, decodeRecord, decodeTable}
+use Rattle.sector.specs.Decoding.{decodeEntries, decodeRecord, decodeTable, entryIn}
 use Rattle.sector.proofs.ListLaws.{and-left, and-right, and-both, all-at}
-use Rattle.sector.proofs.CodecLaws.{entries-length}
-use Rattle.volume.specs.Views.{forPage, givesSlot}
+use Rattle.sector.proofs.CodecLaws.{entries-length, decode-entries-length}
+use Rattle.sector.specs.Entries.{forPage, givesSlot}
 use Rattle.volume.specs.Lawful.{entryFits, recordFits}
 use Rattle.volume.specs.Sound.{isRecordEncoding}
 use Rattle.soundness.specs.Bytes.{allZero, marked}
-use Rattle.soundness.specs.Record.{emptyIfIdle, recordHeadTest, entryIn, entryTest, entriesTest, entriesIn, alike, entriesDiffer, recordTest, recordSound}
-use Rattle.soundness.proofs.TestLaws.{iff, and-swap, all-no, all-of, all-last, none, _also_, final, _then_}
+use Rattle.soundness.specs.Record.{emptyIfIdle, recordHeadTest, entryTest, entriesTest, entriesIn, alike, entriesDiffer, recordTest, recordSound}
+use Rattle.sector.proofs.TestLaws.{iff, and-swap, all-no, all-of, all-last, none, _also_, final, _then_}
 use Rattle.soundness.proofs.BytesLaws.{same-padding}
-use Rattle.soundness.proofs.DecodingLaws.{same-self, first-four, first-eight, entries-count, firstEntry, first-entry, files-are, file-is}
+use Rattle.soundness.proofs.DecodingLaws.{same-self, first-four, first-eight, firstEntry, first-entry, files-are, file-is}
 
 -- ------------------------------------------------------------------ the bytes of the entries
 -- Each of the n entries ends with a zero byte.
@@ -102,9 +102,9 @@ encoding-is d len few =
     let l : Bytes = drop 8 d in
     let k : ℕ = length (entryBytes (decodeEntries (byte d 3) l)) in
     let n : length l ≡ 248 = length-drop 8 d ∙ omega arith in
-    let rest : length (drop (4 * byte d 3) l) ≡ 248 - k = simp (length-drop, entries-length, entries-count) (omega arith) in
+    let rest : length (drop (4 * byte d 3) l) ≡ 248 - k = simp (length-drop, entries-length, decode-entries-length) (omega arith) in
     subst (λ (x : Bytes). same x (encodeRecord (decodeRecord d)) ≡ encodedBy x) (sym (first-eight d (omega arith)))
-    (rw (entries-count (byte d 3) l, same-self (byte d 2) _, same-self (byte d 3) _)
+    (rw (decode-entries-length (byte d 3) l, same-self (byte d 2) _, same-self (byte d 3) _)
     (rw (entries-same (byte d 3) l _ (omega arith), same-padding (drop (4 * byte d 3) l) k rest) (simp (and-assoc, and-true))))
 
 -- The number of entries, from the first eight bytes or from the whole.
@@ -116,7 +116,7 @@ pub sound-count : (t : Table) (d : Bytes) → recordSound t d ≡ true → byte 
 unfolding recordSound decodeRecord
 sound-count t d e =
     let n : length (decodeRecord d .entries) ≤ 62 = leb-true _ _ (all-at _ 1 (and-right (isRecordEncoding d) _ e)) in
-    rw (entries-count (byte d 3) (drop 8 d)) at n
+    rw (decode-entries-length (byte d 3) (drop 8 d)) at n
 
 module _ (t : Table) (d : Bytes) (len : length d ≡ 256) where
   -- The entries, as read, and four tests of them.
@@ -147,7 +147,7 @@ module _ (t : Table) (d : Bytes) (len : length d ≡ 256) where
       and-both (isRecordEncoding d) (recordFits t (decodeRecord d))
       (rw (encoding-is d len (head-count d head), drop-drop (4 * byte d 3) 8 d)
       (all-of (all-at _ 0 head also all-at _ 4 head also and-right fit _ walk also all-at _ 3 e also none)))
-      (rw (entries-count (byte d 3) (drop 8 d))
+      (rw (decode-entries-length (byte d 3) (drop 8 d))
       (all-of (all-at _ 1 head also all-at _ 2 head also and-left fit _ walk
       also and-left pagesDiffer _ pairs also and-right pagesDiffer _ pairs also all-at _ 3 head also none)))
 
@@ -155,8 +155,8 @@ module _ (t : Table) (d : Bytes) (len : length d ≡ 256) where
   unfolding recordTest recordHeadTest emptyIfIdle entriesTest entriesDiffer entriesIn recordSound decodeRecord
   record-from e =
       let fits : recordFits t (decodeRecord d) ≡ true = and-right (isRecordEncoding d) _ e in
-      let few : leb (byte d 3) 62 ≡ true = rw (entries-count (byte d 3) (drop 8 d)) at (all-at _ 1 fits) in
-      let idle : (not (eqb (byte d 2) 0) || eqb (byte d 3) 0) ≡ true = rw (entries-count (byte d 3) (drop 8 d)) at (all-at _ 5 fits) in
+      let few : leb (byte d 3) 62 ≡ true = rw (decode-entries-length (byte d 3) (drop 8 d)) at (all-at _ 1 fits) in
+      let idle : (not (eqb (byte d 2) 0) || eqb (byte d 3) 0) ≡ true = rw (decode-entries-length (byte d 3) (drop 8 d)) at (all-at _ 5 fits) in
       let bytes : encodedBy d ≡ true = sym (encoding-is d len (leb-true _ _ few)) ∙ and-left (isRecordEncoding d) _ e in
       let rest : allZero (drop (8 + 4 * byte d 3) d) ≡ true = rw (drop-drop (4 * byte d 3) 8 d) at (all-at _ 3 bytes) in
       let walk : (fit && closed) ≡ true = and-both fit _ (all-at _ 2 fits) (all-at _ 2 bytes) in

@@ -16,7 +16,7 @@ use Rattle.sector.specs.Contents.{Bytes, File, Table}
 use Rattle.sector.specs.Sectors.{Volume, sector, byte, word}
 use Rattle.sector.specs.Encoding.{encodeTable}
 use Rattle.sector.specs.Decoding.{decodeTable}
-use Rattle.sector.proofs.ListLaws.{and-left, and-right, and-both, all-at, every-from}
+use Rattle.sector.proofs.ListLaws.{every-at, and-left, and-right, and-both, all-at, every-from}
 use Rattle.volume.specs.Places.{clientNumbers, fileNumbers, noFile, fileAt, sectorAfter, headerSector, endSector, Place, recordPlace, headerPlace}
 use Rattle.volume.specs.Lawful.{fileFits, tableFits, recordFits, headerFits, lawful}
 use Rattle.volume.specs.Volumes.{tableOf, bytesAt, recordIn, headerIn, view}
@@ -26,7 +26,7 @@ use Rattle.soundness.specs.Table.{tableSound}
 use Rattle.soundness.specs.Record.{recordSound, recordSoundIn}
 use Rattle.soundness.specs.Header.{headerSound}
 use Rattle.soundness.specs.Tested.{soundTest, Tested}
-use Rattle.soundness.proofs.TestLaws.{iff, all-no, all-of, all-last, every-at, every-both, none, _also_, final, _then_}
+use Rattle.sector.proofs.TestLaws.{iff, all-no, all-of, all-last, every-both, none, _also_, final, _then_}
 use Rattle.soundness.proofs.DecodingLaws.{files-are, file-is}
 use Rattle.soundness.proofs.RecordLaws.{sound-count}
 
@@ -99,7 +99,7 @@ module _ (v tb : Bytes) (ok : tableSound tb ≡ true) (sized : length v ≡ 256 
       is f lo hi = record { low = lo; high = rw (files-are tb) hi }
 
       fit : (f : ℕ) → 1 ≤ f → f ≤ byte tb 5 → fileFits (fileAt t f) ≡ true
-      fit f lo hi = every-at fileFits (t .files) noFile (f - 1) (all-at _ 4 fits) (rw (files-are tb) (omega arith))
+      fit f lo hi = every-at fileFits (t .files) (f - 1) noFile (all-at _ 4 fits) (rw (files-are tb) (omega arith))
 
       page : (f : ℕ) → 1 ≤ f → f ≤ byte tb 5 → byte tb (8 + 4 * (f - 1) + 2) ≤ 120
       page f lo hi =

@@ -15,16 +15,16 @@ use Rattle.sector.specs.Lists.{all, every, same}
 use Rattle.sector.specs.Contents.{Bytes, File, Table}
 use Rattle.sector.specs.Sectors.{byte, word, padded}
 use Rattle.sector.specs.Encoding.{fileBytes, encodeTable}
-use Rattle.sector.specs.Decoding.{decodeFiles, decodeTable}
+use Rattle.sector.specs.Decoding.{decodeFiles, decodeTable, fileIn}
 use Rattle.sector.proofs.ListLaws.{and-left, and-right, and-both, all-at}
-use Rattle.sector.proofs.CodecLaws.{files-length}
+use Rattle.sector.proofs.CodecLaws.{files-length, decode-files-length}
 use Rattle.volume.specs.Places.{sectorAfter}
 use Rattle.volume.specs.Lawful.{fileFits, tableFits}
 use Rattle.soundness.specs.Bytes.{allZero, marked}
-use Rattle.soundness.specs.Table.{fileIn, headerIs, fileTest, filesTest, tableHeadTest, tableTest, tableSound}
-use Rattle.soundness.proofs.TestLaws.{iff, all-no, all-of, all-last, none, _also_, final, _then_}
+use Rattle.soundness.specs.Table.{headerIs, fileTest, filesTest, tableHeadTest, tableTest, tableSound}
+use Rattle.sector.proofs.TestLaws.{iff, all-no, all-of, all-last, none, _also_, final, _then_}
 use Rattle.soundness.proofs.BytesLaws.{same-padding}
-use Rattle.soundness.proofs.DecodingLaws.{same-self, first-four, first-eight, files-count, firstFile, first-file}
+use Rattle.soundness.proofs.DecodingLaws.{same-self, first-four, first-eight, firstFile, first-file}
 
 -- ------------------------------------------------------------------ the bytes of the entries
 -- The entry in the first four bytes names sector h as its file's header.
@@ -114,11 +114,11 @@ module _ (d : Bytes) (len : length d ≡ 256) (small : byte d 2 < 256) where
       let l : Bytes = drop 8 d in
       let k : ℕ = length (fileBytes (byte d 4 + 1) xs) in
       let n : length l ≡ 248 = length-drop 8 d ∙ omega arith in
-      let rest : length (drop (4 * byte d 5) l) ≡ 248 - k = simp (length-drop, files-length, files-count) (omega arith) in
+      let rest : length (drop (4 * byte d 5) l) ≡ 248 - k = simp (length-drop, files-length, decode-files-length) (omega arith) in
       let low : word d 2 % 256 ≡ byte d 2 = omega arith in
       let high : word d 2 / 256 ≡ byte d 3 = omega arith in
       subst (λ (x : Bytes). same x (encodeTable t) ≡ encodedBy x) (sym (first-eight d (omega arith)))
-      (rw (low, high, files-count (byte d 5) l)
+      (rw (low, high, decode-files-length (byte d 5) l)
       (rw (same-self (byte d 2) _, same-self (byte d 3) _, same-self (byte d 4) _, same-self (byte d 5) _)
       (rw (entries-same (byte d 5) (byte d 4 + 1) l _ (omega arith), same-padding (drop (4 * byte d 5) l) k rest)
       (simp (and-assoc, and-true)))))
@@ -136,7 +136,7 @@ module _ (d : Bytes) (len : length d ≡ 256) (small : byte d 2 < 256) where
       and-both (same d (encodeTable t)) (tableFits t)
       (rw (encoding-is (head-files d head), drop-drop (4 * byte d 5) 8 d)
       (all-of (all-at _ 0 head also all-at _ 6 head also and-right end _ more also all-at _ 2 e also none)))
-      (rw (files-count (byte d 5) (drop 8 d))
+      (rw (decode-files-length (byte d 5) (drop 8 d))
       (all-of (all-at _ 1 head also all-at _ 2 head also all-at _ 3 head also count
       also and-left fit _ walk also and-left end _ more also none)))
 
@@ -144,7 +144,7 @@ module _ (d : Bytes) (len : length d ≡ 256) (small : byte d 2 < 256) where
   unfolding tableTest tableHeadTest tableSound decodeTable
   table-from e =
       let fits : tableFits t ≡ true = and-right (same d (encodeTable t)) _ e in
-      let count : (leb 1 (byte d 5) && leb (byte d 5) 16) ≡ true = rw (files-count (byte d 5) (drop 8 d)) at (all-at _ 3 fits) in
+      let count : (leb 1 (byte d 5) && leb (byte d 5) 16) ≡ true = rw (decode-files-length (byte d 5) (drop 8 d)) at (all-at _ 3 fits) in
       let few : leb (byte d 5) 16 ≡ true = and-right (leb 1 (byte d 5)) _ count in
       let bytes : encodedBy d ≡ true = sym (encoding-is (leb-true _ _ few)) ∙ and-left (same d (encodeTable t)) _ e in
       let rest : allZero (drop (8 + 4 * byte d 5) d) ≡ true = rw (drop-drop (4 * byte d 5) 8 d) at (all-at _ 3 bytes) in

@@ -8,19 +8,19 @@ use lib.ListN.{length, take, drop}
 use Rattle.sector.specs.Lists.{all, every, distinct}
 use Rattle.sector.specs.Contents.{Bytes, File, Table, Entry}
 use Rattle.sector.specs.Sectors.{Volume, sector, byte}
-use Rattle.sector.specs.Decoding.{decodeHeader}
+use Rattle.sector.specs.Decoding.{decodeHeader, entryIn}
 use Rattle.volume.specs.Places.{fileAt, headerPlace}
-use Rattle.volume.specs.Views.{forFile}
+use Rattle.sector.specs.Entries.{forFile}
 use Rattle.volume.specs.Lawful.{headerFits}
 use Rattle.volume.specs.Volumes.{bytesAt, recordIn}
 use Rattle.volume.specs.Sound.{isHeaderEncoding}
 use Rattle.soundness.specs.Bytes.{allZero, marked}
-use Rattle.soundness.specs.Set.{hasByte, Holds}
-use Rattle.soundness.specs.Record.{entryIn, entriesIn}
+use Rattle.byteset.specs.Set.{hasByte, Holds}
+use Rattle.soundness.specs.Record.{entriesIn}
 
 -- The map of a file of P pages.
-abbrev pub mapIn : ℕ → Bytes → List ℕ
-mapIn P d = take P (drop 8 d)
+abbrev pub mapBytes : ℕ → Bytes → List ℕ
+mapBytes P d = take P (drop 8 d)
 
 -- Map bytes are below R and distinct.
 unfoldable pub mapFits : ℕ → List ℕ → Bool
@@ -34,7 +34,7 @@ freshIn R seen (x ∷ xs) = ltb x R && (not (seen x) && freshIn R (λ y. eqb y x
 -- What a test of the map leaves: its answer, and where that is `true`, the slots of the map in the set s.
 pub record Scanned (P : ℕ) (d : Bytes) (test answer : Bool) (s : List ℕ) : Type 0 where
   pub tells : answer ≡ test
-  pub holds : answer ≡ true → Holds s (mapIn P d)
+  pub holds : answer ≡ true → Holds s (mapBytes P d)
   pub words : length s ≡ 4
 
 -- The first eight bytes fit, whatever the holder.
@@ -49,13 +49,13 @@ fileWith P R = record { pages = P; slots = R }
 unfoldable pub bodyTest : File → Bytes → Bool
 bodyTest x d = all
     (headerHeadTest d
-    ∷ mapFits (x .slots) (mapIn (x .pages) d)
+    ∷ mapFits (x .slots) (mapBytes (x .pages) d)
     ∷ allZero (drop (8 + x .pages) d)
     ∷ [])
 
 -- What `sound` asks of all of it but its holder.
 unfoldable pub bodySound : File → Bytes → Bool
-bodySound x d = isHeaderEncoding x d && mapFits (x .slots) (mapIn (x .pages) d)
+bodySound x d = isHeaderEncoding x d && mapFits (x .slots) (mapBytes (x .pages) d)
 
 -- The entry is for another file than f, or gives a slot that is not in the set s.
 abbrev pub apartFrom : ℕ → List ℕ → Entry → Bool

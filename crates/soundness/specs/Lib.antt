@@ -1,5 +1,4 @@
 pub mod Bytes
-pub mod Set
 pub mod Table
 pub mod Record
 pub mod Header

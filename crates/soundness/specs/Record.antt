@@ -7,8 +7,8 @@ use lib.ListN.{take, drop}
 use Rattle.sector.specs.Lists.{all, every, any, distinct, from}
 use Rattle.sector.specs.Contents.{Bytes, Table, Entry}
 use Rattle.sector.specs.Sectors.{Volume, sector, byte}
-use Rattle.sector.specs.Decoding.{decodeEntries, decodeRecord}
-use Rattle.volume.specs.Views.{forPage, givesSlot}
+use Rattle.sector.specs.Decoding.{decodeEntries, decodeRecord, entryIn}
+use Rattle.sector.specs.Entries.{forPage, givesSlot}
 use Rattle.volume.specs.Lawful.{entryFits, recordFits}
 use Rattle.volume.specs.Sound.{isRecordEncoding}
 use Rattle.soundness.specs.Bytes.{allZero, marked}
@@ -26,10 +26,6 @@ recordHeadTest d = all
     ∷ emptyIfIdle d
     ∷ allZero (take 4 (drop 4 d))
     ∷ [])
-
--- Entry i.
-abbrev pub entryIn : Bytes → ℕ → Entry
-entryIn d i = record { file = byte d (8 + 4 * i); page = byte d (8 + 4 * i + 1); slot = byte d (8 + 4 * i + 2) }
 
 -- Entry i fits, and ends with a zero byte.
 unfoldable pub entryTest : Table → Bytes → ℕ → Bool

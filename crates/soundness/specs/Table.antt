@@ -8,13 +8,9 @@ use Rattle.sector.specs.Lists.{all, same}
 use Rattle.sector.specs.Contents.{Bytes, File}
 use Rattle.sector.specs.Sectors.{byte, word}
 use Rattle.sector.specs.Encoding.{encodeTable}
-use Rattle.sector.specs.Decoding.{decodeTable}
+use Rattle.sector.specs.Decoding.{decodeTable, fileIn}
 use Rattle.volume.specs.Lawful.{fileFits, tableFits}
 use Rattle.soundness.specs.Bytes.{allZero, marked}
-
--- The file that entry i describes: file i + 1.
-abbrev pub fileIn : Bytes → ℕ → File
-fileIn d i = record { pages = byte d (8 + 4 * i + 2); slots = byte d (8 + 4 * i + 3) }
 
 -- Entry i names sector h as its file's header.
 abbrev pub headerIs : Bytes → ℕ → ℕ → Bool

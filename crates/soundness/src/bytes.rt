@@ -1,4 +1,4 @@
-// Bytes as numbers, the parts of a volume and of a control sector, and bytes that have to be zero.
+// The parts of a control sector, its mark, and bytes that have to be zero.
 use sector::Sector;
 ghost use mathlib.Core.Path.{_≡_};
 ghost use Prim.Native.Nat.{_+_, _*_, _≤_, _<_};
@@ -10,31 +10,6 @@ ghost use Rattle.soundness.specs.Bytes.{allZero, marked};
 pub const HEAD: usize = 8;
 // The bytes of one entry, in the table and in a record.
 pub const ENTRY: usize = 4;
-
-// The byte as a count or an index.
-pub fn size(x: u8) -> usize
-    ensures { λ r. ⌜ (r ≡ x) × (r < 256) ⌝ }
-{
-    x as usize
-}
-
-// The number in bytes i and i + 1 of a sector, low byte first.
-pub fn word_at(d: &[u8], i: usize) -> usize
-    requires { ⌜ (length (now d) ≡ 256) × (i < 255) ⌝ }
-    ensures { λ r. ⌜ (r ≡ word (now (d .entry)) i) × (r < 65536) × (byte (now (d .entry)) i < 256) ⌝ }
-{
-    size(d[i]) + 256 * size(d[i + 1])
-}
-
-// Sector s of the volume.
-pub fn sector_at(v: &[u8], s: usize) -> &[u8]
-    requires { ⌜ (256 * s + 256 ≤ length (now v)) × (s ≤ 65536) ⌝ }
-    ensures { λ r. ⌜ (now r ≡ sector (now (v .entry)) s) × (length (now r) ≡ 256) ⌝ }
-{
-    let start = Sector::SIZE * s;
-    let end = start + Sector::SIZE;
-    &v[start..end]
-}
 
 // Whether the sector begins with the mark of a control sector whose second byte is `second`.
 pub fn has_mark(d: &[u8], second: u8) -> bool

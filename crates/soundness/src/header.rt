@@ -3,20 +3,20 @@ use crate::bytes::ENTRY;
 use crate::bytes::HEAD;
 use crate::bytes::all_zero;
 use crate::bytes::has_mark;
-use crate::bytes::sector_at;
-use crate::bytes::size;
 use crate::bytes::zero_from;
-use crate::byteset::add;
-use crate::byteset::has;
+use byteset::add;
+use byteset::has;
 use sector::Sector;
+use sector::part;
+use sector::size;
 ghost use mathlib.Core.Path.{_≡_};
 ghost use Prim.Native.Nat.{_≤_, _<_};
 ghost use lib.ListN.{length};
 ghost use Rattle.sector.specs.Sectors.{byte};
 ghost use Rattle.sector.specs.Decoding.{decodeTable};
 ghost use Rattle.volume.specs.Places.{headerSector};
-ghost use Rattle.soundness.specs.Set.{noBytes};
-ghost use Rattle.soundness.specs.Header.{mapIn, mapFits, Scanned, headerHeadTest, fileWith, bodySound, slotApart, slotsApart, holderTest, headerSound};
+ghost use Rattle.byteset.specs.Set.{noBytes};
+ghost use Rattle.soundness.specs.Header.{mapBytes, mapFits, Scanned, headerHeadTest, fileWith, bodySound, slotApart, slotsApart, holderTest, headerSound};
 ghost use Rattle.soundness.specs.Tested.{Tested};
 
 // Whether the header of file f, in sector h, is sound.
@@ -27,7 +27,7 @@ pub fn header_is_sound(v: &[u8], table: &[u8], f: usize, h: usize) -> bool
     let file = HEAD + ENTRY * (f - 1);
     let pages = size(table[file + 2]);
     let slots = table[file + 3];
-    let d = sector_at(v, h);
+    let d = part(v, h);
     let mut seen = [0u64; 4];
     if !body_is_sound(d, pages, slots, &mut seen) {
         return false;
@@ -64,7 +64,7 @@ fn head_fits(d: &[u8]) -> bool
 // holds them then.
 fn map_fits(d: &[u8], pages: usize, slots: u8, seen: &mut [u64; 4]) -> bool
     requires { ⌜ (length (now d) ≡ 256) × (pages ≤ 120) × (now seen ≡ noBytes) × (length (now seen) ≡ 4) ⌝ }
-    ensures { λ r. ⌜ Scanned pages (now (d .entry)) (mapFits slots (mapIn pages (now (d .entry)))) r (now (seen .exit)) ⌝ }
+    ensures { λ r. ⌜ Scanned pages (now (d .entry)) (mapFits slots (mapBytes pages (now (d .entry)))) r (now (seen .exit)) ⌝ }
 {
     let mut i = 0;
     while i < pages {
@@ -93,7 +93,7 @@ fn holder_fits(v: &[u8], table: &[u8], k: usize, f: usize, seen: &[u64; 4]) -> b
     if size(table[4]) < k {
         return false;
     }
-    let d = sector_at(v, k);
+    let d = part(v, k);
     if d[2] == 0 {
         return false;
     }

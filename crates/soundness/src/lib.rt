@@ -2,20 +2,19 @@
 // It reads the table, the intentions records and the headers, and no slot and no later sector. Each of
 // the modules `table`, `record` and `header` tests one kind of control sector.
 mod bytes;
-mod byteset;
 mod header;
 mod record;
 mod table;
 
 use crate::bytes::ENTRY;
 use crate::bytes::HEAD;
-use crate::bytes::sector_at;
-use crate::bytes::size;
-use crate::bytes::word_at;
 use crate::header::header_is_sound;
 use crate::record::record_is_sound;
 use crate::table::table_is_sound;
 use sector::Sector;
+use sector::part;
+use sector::size;
+use sector::word_at;
 ghost use mathlib.Core.Path.{_≡_};
 ghost use Prim.Native.Nat.{_+_, _*_, _≤_};
 ghost use lib.ListN.{length};
@@ -36,7 +35,7 @@ pub fn is_sound(v: &[u8]) -> bool
     if v.len() < Sector::SIZE {
         return false;
     }
-    let table = sector_at(v, 0);
+    let table = part(v, 0);
     if !table_is_sound(table) {
         return false;
     }
@@ -56,7 +55,7 @@ fn records_are_sound(v: &[u8], table: &[u8], n: usize) -> bool
 {
     let mut k = 1;
     while k <= n {
-        if !record_is_sound(table, sector_at(v, k)) {
+        if !record_is_sound(table, part(v, k)) {
             return false;
         }
         k += 1;

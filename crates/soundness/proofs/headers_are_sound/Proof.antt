@@ -9,7 +9,7 @@ use Rattle.sector.specs.Lists.{every, from}
 use Rattle.sector.specs.Decoding.{decodeTable}
 use Rattle.volume.specs.Places.{headerSector}
 use Rattle.soundness.specs.Header.{headerSound}
-use Rattle.soundness.proofs.TestLaws.{numbers-more, numbers-fail, numbers-done, numbers-none}
+use Rattle.sector.proofs.TestLaws.{numbers-more, numbers-fail, numbers-done, numbers-none}
 use Rattle.soundness.proofs.SoundLaws.{first-header, next-header}
 use Rattle.soundness.proofs.headers_are_sound.Statement.{statement}
 use Rattle.soundness.proofs.headers_are_sound.Tie as tie

@@ -12,8 +12,8 @@ use Rattle.soundness.proofs.is_sound.Tie as tie
 returns : tie.Need-returns
 returns c = sym (short-no (c .before .before .args .v .now) (c .if1 .taken))
 
-sector-at-requires : tie.Need-sector-at-requires
-sector-at-requires c κs = search needs
+part-requires : tie.Need-part-requires
+part-requires c κs = search needs
 
 table-is-sound-requires : tie.Need-table-is-sound-requires
 table-is-sound-requires c κs = search needs
@@ -22,7 +22,7 @@ returns-2 : tie.Need-returns-2
 returns-2 c =
     let p = c .before .before in
     let no = sym (c .before .table-is-sound .ensures) ∙ not-true _ (c .if2 .taken) in
-    sym (table-no (p .before .before .before .args .v .now) _ (p .sector-at .ensures .0) no)
+    sym (table-no (p .before .before .before .args .v .now) _ (p .part .ensures .0) no)
 
 word-at-requires : tie.Need-word-at-requires
 word-at-requires c κs = search needs
@@ -34,7 +34,7 @@ returns-3 : tie.Need-returns-3
 returns-3 c =
     let m = c .before in
     let p = m .before .before .before in
-    sym (size-no (p .before .before .before .args .v .now) _ (p .sector-at .ensures .0) _ (m .word-at .ensures .0) (c .if3 .taken))
+    sym (size-no (p .before .before .before .args .v .now) _ (p .part .ensures .0) _ (m .word-at .ensures .0) (c .if3 .taken))
 
 shared-slice-read-size : tie.Need-shared-slice-read-size
 shared-slice-read-size c = search needs
@@ -49,19 +49,19 @@ records-are-sound-requires c κs =
     let e2 = m .before in
     let p = e2 .before .before in
     let v = p .before .before .before .args .v .now in
-    let tb = p .sector-at .result .now in
+    let tb = p .part .result .now in
     let ok = sym (e2 .before .table-is-sound .ensures) ∙ not-false _ (e2 .if2 .left) in
     let sized : length v ≡ 256 * word tb 2 = rw (m .word-at .ensures .0) at (e3 .if3 .left) in
     let inside = records-inside v tb ok sized in
     let few = few-clients v tb ok sized in
-    (p .sector-at .ensures .1, few-files v tb ok sized, rw (c .size .ensures .0) few, rw (c .size .ensures .0) inside)
+    (p .part .ensures .1, few-files v tb ok sized, rw (c .size .ensures .0) few, rw (c .size .ensures .0) inside)
 
 returns-4 : tie.Need-returns-4
 returns-4 c =
     let z = c .before .before in
     let p = z .before .before .before .before .before .before in
     let no = sym (c .before .records-are-sound .ensures) ∙ not-true _ (c .if4 .taken) in
-    sym (records-no (p .before .before .before .args .v .now) _ (p .sector-at .ensures .0) _ (z .size .ensures .0) no)
+    sym (records-no (p .before .before .before .args .v .now) _ (p .part .ensures .0) _ (z .size .ensures .0) no)
 
 shared-slice-read-size-2 : tie.Need-shared-slice-read-size-2
 shared-slice-read-size-2 c = search needs
@@ -78,11 +78,11 @@ headers-are-sound-requires c κs =
     let e2 = m .before in
     let p = e2 .before .before in
     let v = p .before .before .before .args .v .now in
-    let tb = p .sector-at .result .now in
+    let tb = p .part .result .now in
     let ok = sym (e2 .before .table-is-sound .ensures) ∙ not-false _ (e2 .if2 .left) in
     let sized : length v ≡ 256 * word tb 2 = rw (m .word-at .ensures .0) at (e3 .if3 .left) in
     let recs = rw (z .size .ensures .0) at (sym (e4 .before .records-are-sound .ensures) ∙ not-false _ (e4 .if4 .left)) in
-    (tested v tb ok sized (p .sector-at .ensures .1) recs, c .size2 .ensures .0)
+    (tested v tb ok sized (p .part .ensures .1) recs, c .size2 .ensures .0)
 
 returns-5 : tie.Need-returns-5
 returns-5 c =
@@ -94,11 +94,11 @@ returns-5 c =
     let e2 = m .before in
     let p = e2 .before .before in
     let v = p .before .before .before .args .v .now in
-    let tb = p .sector-at .result .now in
+    let tb = p .part .result .now in
     let ok = sym (e2 .before .table-is-sound .ensures) ∙ not-false _ (e2 .if2 .left) in
     let recs = sym (e4 .before .records-are-sound .ensures) ∙ not-false _ (e4 .if4 .left) in
     c .headers-are-sound .ensures
-    ∙ sound-last v tb (p .sector-at .ensures .0) _ _ _ (m .word-at .ensures .0) (z .size .ensures .0) (z2 .size2 .ensures .0)
+    ∙ sound-last v tb (p .part .ensures .0) _ _ _ (m .word-at .ensures .0) (z .size .ensures .0) (z2 .size2 .ensures .0)
     (p .before .if1 .left) ok (e3 .if3 .left) recs
 
 pub is-sound-spec : {M : Type 1} → statement M
@@ -106,7 +106,7 @@ is-sound-spec =
     tie.close
     (tie.spec
     returns
-    sector-at-requires
+    part-requires
     table-is-sound-requires
     returns-2
     word-at-requires

@@ -7,7 +7,7 @@ use borrow.Author.Tests.{not-true, not-false}
 use Rattle.sector.specs.Lists.{every, from}
 use Rattle.sector.specs.Decoding.{decodeTable}
 use Rattle.soundness.specs.Record.{recordSound, recordSoundIn}
-use Rattle.soundness.proofs.TestLaws.{numbers-more, numbers-fail, numbers-done, numbers-none}
+use Rattle.sector.proofs.TestLaws.{numbers-more, numbers-fail, numbers-done, numbers-none}
 use Rattle.soundness.proofs.records_are_sound.Statement.{statement}
 use Rattle.soundness.proofs.records_are_sound.Tie as tie
 
@@ -25,8 +25,8 @@ loop-holds c =
     let all = numbers-none (recordSoundIn (decodeTable (a .table .now)) (a .v .now)) 1 (a .n) (a .n + 1) (omega arith) in
     (omega arith, omega arith, all)
 
-sector-at-requires : tie.Need-sector-at-requires Inv-loop μ-loop
-sector-at-requires c κs = search needs
+part-requires : tie.Need-part-requires Inv-loop μ-loop
+part-requires c κs = search needs
 
 record-is-sound-requires : tie.Need-record-is-sound-requires Inv-loop μ-loop
 record-is-sound-requires c κs = search needs
@@ -36,7 +36,7 @@ returns c =
     let at = c .before .before .before .before in
     let a = at .before .before .before .args in
     let t = decodeTable (a .table .now) in
-    let same = ap (recordSound t) (sym (c .before .before .sector-at .ensures .0)) in
+    let same = ap (recordSound t) (sym (c .before .before .part .ensures .0)) in
     let e = same ∙ sym (c .before .record-is-sound .ensures) ∙ not-true _ (c .if1 .taken) in
     sym (numbers-fail (recordSoundIn t (a .v .now)) _ (a .n + 1) (at .loop .k) (at .loop .inv .2) (omega arith) e)
 
@@ -51,7 +51,7 @@ loop-again c =
     let at = c .before .before .before .before in
     let a = at .before .before .before .args in
     let t = decodeTable (a .table .now) in
-    let same = ap (recordSound t) (sym (c .before .before .sector-at .ensures .0)) in
+    let same = ap (recordSound t) (sym (c .before .before .part .ensures .0)) in
     let e = same ∙ sym (c .before .record-is-sound .ensures) ∙ not-false _ (c .if1 .left) in
     (omega arith, omega arith, numbers-more (recordSoundIn t (a .v .now)) _ (a .n + 1) (at .loop .k) (at .loop .inv .2) (omega arith) e)
 
@@ -69,7 +69,7 @@ records-are-sound-spec =
     Inv-loop
     μ-loop
     loop-holds
-    sector-at-requires
+    part-requires
     record-is-sound-requires
     returns
     add-k

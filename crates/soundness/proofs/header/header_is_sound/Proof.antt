@@ -34,8 +34,8 @@ add-slots c = search needs
 shared-slice-read-slots : tie.Need-shared-slice-read-slots
 shared-slice-read-slots c = search needs
 
-sector-at-requires : tie.Need-sector-at-requires
-sector-at-requires c κs =
+part-requires : tie.Need-part-requires
+part-requires c κs =
     let s = c .before .before .before .before .before in
     let a = s .args in
     let inside = s .pre .0 .headers (a .f) (s .pre .1) (s .pre .2) in
@@ -48,7 +48,7 @@ body-is-sound-requires c κs =
     let s = z .before .before .before .before in
     let a = s .args in
     let few : byte (a .table .now) (8 + 4 * (a .f - 1) + 2) ≤ 120 = s .pre .0 .pages (a .f) (s .pre .1) (s .pre .2) in
-    (p .sector-at .ensures .1, omega (arith, few, z .size .ensures .0), refl, refl)
+    (p .part .ensures .1, omega (arith, few, z .size .ensures .0), refl, refl)
 
 returns : tie.Need-returns
 returns c =
@@ -59,7 +59,7 @@ returns c =
     let few : byte (a .table .now) (8 + 4 * (a .f - 1) + 2) ≤ 120 = s .pre .0 .pages (a .f) (s .pre .1) (s .pre .2) in
     let law = header-no (a .v .now) (a .table .now) (a .f) (s .pre .1) (s .pre .2) (a .h) (s .pre .3) in
     let no = sym (c .before .body-is-sound .ensures .tells) ∙ not-true _ (c .if1 .taken) in
-    sym (law _ (p .sector-at .ensures .0) (p .sector-at .ensures .1) _ (z .size .ensures .0) (rw (z .size .ensures .0) few) no)
+    sym (law _ (p .part .ensures .0) (p .part .ensures .1) _ (z .size .ensures .0) (rw (z .size .ensures .0) few) no)
 
 shared-slice-read-size-2 : tie.Need-shared-slice-read-size-2
 shared-slice-read-size-2 c = search needs
@@ -83,7 +83,7 @@ returns-2 c =
     let left = e1 .before .body-is-sound .ensures in
     let y : e1 .before .body-is-sound .result ≡ true = not-false _ (e1 .if1 .left) in
     let body = sym (left .tells) ∙ y in
-    let is = law _ (p .sector-at .ensures .0) (p .sector-at .ensures .1) _ (z .size .ensures .0) (rw (z .size .ensures .0) few) body _ (left .holds y) in
+    let is = law _ (p .part .ensures .0) (p .part .ensures .1) _ (z .size .ensures .0) (rw (z .size .ensures .0) few) body _ (left .holds y) in
     c .holder-fits .ensures ∙ rw (z2 .size2 .ensures .0) (sym is)
 
 pub header-is-sound-spec : {M : Type 1} → statement M
@@ -98,7 +98,7 @@ header-is-sound-spec =
     size-requires
     add-slots
     shared-slice-read-slots
-    sector-at-requires
+    part-requires
     body-is-sound-requires
     returns
     shared-slice-read-size-2

@@ -27,8 +27,8 @@ returns-2 c =
     let high = rw (c .before .size .ensures .0) at (c .if2 .taken) in
     sym (holder-high (a .v .now) (byte (a .table .now) 4) (a .k) (a .f) (a .seen .now) (e1 .if1 .left) high)
 
-sector-at-requires : tie.Need-sector-at-requires
-sector-at-requires c κs = search needs
+part-requires : tie.Need-part-requires
+part-requires c κs = search needs
 
 shared-slice-read-if3 : tie.Need-shared-slice-read-if3
 shared-slice-read-if3 c = search needs
@@ -38,7 +38,7 @@ returns-3 c =
     let p = c .before .before in
     let e1 = p .before .before .before .before in
     let a = e1 .before .before .before .args in
-    let idle = rw (p .sector-at .ensures .0) at (c .if3 .taken) in
+    let idle = rw (p .part .ensures .0) at (c .if3 .taken) in
     sym (holder-idle (a .v .now) (byte (a .table .now) 4) (a .k) (a .f) (a .seen .now) (e1 .if1 .left) idle)
 
 shared-slice-read-size-2 : tie.Need-shared-slice-read-size-2
@@ -57,8 +57,8 @@ slots-apart-requires c κs =
     let some : a .k ≡ 0 → ⊥ = e1 .if1 .left in
     let is : a .k ≤ byte (a .table .now) 4 = rw (e2 .before .size .ensures .0) at (e2 .if2 .left) in
     let few : byte (sector (a .v .now) (a .k)) 3 ≤ 62 = s .pre .0 .counts (a .k) (omega (arith, some)) is in
-    let n : c .size2 .result ≡ byte (sector (a .v .now) (a .k)) 3 = rw (p .sector-at .ensures .0) at (c .size2 .ensures .0) in
-    (p .sector-at .ensures .1, c .size2 .ensures .0, omega (arith, few, n), s .pre .1)
+    let n : c .size2 .result ≡ byte (sector (a .v .now) (a .k)) 3 = rw (p .part .ensures .0) at (c .size2 .ensures .0) in
+    (p .part .ensures .1, c .size2 .ensures .0, omega (arith, few, n), s .pre .1)
 
 returns-4 : tie.Need-returns-4
 returns-4 c =
@@ -68,9 +68,9 @@ returns-4 c =
     let e1 = e2 .before .before .before in
     let a = e1 .before .before .before .args in
     let is = rw (e2 .before .size .ensures .0) at (e2 .if2 .left) in
-    let busy = rw (p .sector-at .ensures .0) at (e3 .if3 .left) in
+    let busy = rw (p .part .ensures .0) at (e3 .if3 .left) in
     let last = holder-last (a .v .now) (byte (a .table .now) 4) (a .k) (a .f) (a .seen .now) (e1 .if1 .left) is busy in
-    c .slots-apart .ensures ∙ rw (p .sector-at .ensures .0) (sym last)
+    c .slots-apart .ensures ∙ rw (p .part .ensures .0) (sym last)
 
 pub holder-fits-spec : {M : Type 1} → statement M
 holder-fits-spec =
@@ -80,7 +80,7 @@ holder-fits-spec =
     shared-slice-read-size
     size-requires
     returns-2
-    sector-at-requires
+    part-requires
     shared-slice-read-if3
     returns-3
     shared-slice-read-size-2

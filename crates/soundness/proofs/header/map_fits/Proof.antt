@@ -8,8 +8,8 @@ use Prim.Native.Nat.{ℕ, _+_, _-_, _/_, _≤_, _<_}
 use lib.ListN.{length, drop}
 use Rattle.sector.specs.Lists.{member}
 use Rattle.sector.specs.Sectors.{byte}
-use Rattle.soundness.specs.Set.{hasByte}
-use Rattle.soundness.specs.Header.{mapIn, mapFits, freshIn}
+use Rattle.byteset.specs.Set.{hasByte}
+use Rattle.soundness.specs.Header.{mapBytes, mapFits, freshIn}
 use Rattle.soundness.proofs.MapLaws.{fresh-none, seen-none, seen-more, fresh-high, fresh-seen, fresh-more, fresh-done, seen-done, next-byte, no-byte}
 use Rattle.soundness.proofs.header.map_fits.Statement.{statement}
 use Rattle.soundness.proofs.header.map_fits.Tie as tie
@@ -17,8 +17,8 @@ use Rattle.soundness.proofs.header.map_fits.Tie as tie
 abbrev Inv-loop : tie.InvT-loop
 Inv-loop d pages slots seen₀ i₀ seen i =
     (i ≤ pages)
-    × (mapFits slots (mapIn pages d) ≡ freshIn slots (hasByte seen) (drop i (mapIn pages d)))
-    × ((y : ℕ) → (hasByte seen y || member y (drop i (mapIn pages d))) ≡ member y (mapIn pages d))
+    × (mapFits slots (mapBytes pages d) ≡ freshIn slots (hasByte seen) (drop i (mapBytes pages d)))
+    × ((y : ℕ) → (hasByte seen y || member y (drop i (mapBytes pages d))) ≡ member y (mapBytes pages d))
     × (length seen ≡ 4)
 
 abbrev μ-loop : tie.MeasureT-loop
@@ -27,7 +27,7 @@ abbrev μ-loop : tie.MeasureT-loop
 loop-holds : tie.Need-loop-holds Inv-loop μ-loop
 loop-holds c =
     let s = c .before in
-    let m = mapIn (s .args .pages) (s .args .d .now) in
+    let m = mapBytes (s .args .pages) (s .args .d .now) in
     (omega arith, fresh-none (s .args .slots) m _ (s .pre .2), seen-none (s .args .slots) m _ (s .pre .2), s .pre .3)
 
 add-x : tie.Need-add-x Inv-loop μ-loop
@@ -40,7 +40,7 @@ returns : tie.Need-returns Inv-loop μ-loop
 returns c =
     let at = c .before .before .before in
     let s = at .before .before in
-    let m = mapIn (s .args .pages) (s .args .d .now) in
+    let m = mapBytes (s .args .pages) (s .args .d .now) in
     let next = next-byte (s .args .pages) (s .args .d .now) (s .pre .0) (s .pre .1) (at .loop .i) (omega arith) in
     let no = sym (fresh-high (s .args .slots) m (at .loop .seen) (at .loop .i) _ next _ (at .loop .inv .1) (c .if1 .taken)) in
     record { tells = no; holds = λ q. absurd (false≢true q); words = at .loop .inv .3 }
@@ -53,7 +53,7 @@ returns-2 c =
     let e1 = c .before .before .before in
     let at = e1 .before .before .before in
     let s = at .before .before in
-    let m = mapIn (s .args .pages) (s .args .d .now) in
+    let m = mapBytes (s .args .pages) (s .args .d .now) in
     let next = next-byte (s .args .pages) (s .args .d .now) (s .pre .0) (s .pre .1) (at .loop .i) (omega arith) in
     let was = sym (c .before .has .ensures) ∙ c .if2 .taken in
     let no = sym (fresh-seen (s .args .slots) m (at .loop .seen) (at .loop .i) _ next _ (at .loop .inv .1) (e1 .if1 .left) was) in
@@ -74,7 +74,7 @@ loop-again c =
     let e1 = e2 .before .before .before in
     let at = e1 .before .before .before in
     let s = at .before .before in
-    let m = mapIn (s .args .pages) (s .args .d .now) in
+    let m = mapBytes (s .args .pages) (s .args .d .now) in
     let next = next-byte (s .args .pages) (s .args .d .now) (s .pre .0) (s .pre .1) (at .loop .i) (omega arith) in
     let low : byte (s .args .d .now) (8 + at .loop .i) < s .args .slots = e1 .if1 .left in
     let room : byte (s .args .d .now) (8 + at .loop .i) / 64 < length (at .loop .seen) = omega (arith, low, at .loop .inv .3) in
@@ -87,7 +87,7 @@ returns-3 : tie.Need-returns-3 Inv-loop μ-loop
 returns-3 c =
     let at = c .before in
     let s = at .before .before in
-    let m = mapIn (s .args .pages) (s .args .d .now) in
+    let m = mapBytes (s .args .pages) (s .args .d .now) in
     let end = no-byte (s .args .pages) (s .args .d .now) (s .pre .0) (s .pre .1) (at .loop .i) (omega arith) in
     let yes = sym (fresh-done (s .args .slots) m (at .loop .seen) (at .loop .i) end _ (at .loop .inv .1)) in
     let all = seen-done (s .args .slots) m (at .loop .seen) (at .loop .i) end (at .loop .inv .2) in

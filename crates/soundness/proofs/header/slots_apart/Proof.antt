@@ -8,7 +8,7 @@ use lib.ListN.{drop}
 use Rattle.sector.specs.Lists.{every}
 use Rattle.soundness.specs.Record.{entriesIn}
 use Rattle.soundness.specs.Header.{apartFrom, slotApart, slotsApart}
-use Rattle.soundness.proofs.TestLaws.{every-more, every-fails}
+use Rattle.sector.proofs.TestLaws.{every-more, every-fails}
 use Rattle.soundness.proofs.DecodingLaws.{next-entry, no-entry}
 use Rattle.soundness.proofs.header.slots_apart.Statement.{statement}
 use Rattle.soundness.proofs.header.slots_apart.Tie as tie

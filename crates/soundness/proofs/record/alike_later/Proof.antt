@@ -4,9 +4,10 @@ use native.Mathlib.Omega.{arith}
 use mathlib.Core.Path.{_≡_, refl, sym, _∙_}
 use Prim.Native.Nat.{_-_, _≤_, _<_}
 use lib.ListN.{drop}
+use Rattle.sector.specs.Decoding.{entryIn}
 use Rattle.sector.specs.Lists.{any}
-use Rattle.soundness.specs.Record.{entryIn, entriesIn, alike, alikeAt, alikeLater}
-use Rattle.soundness.proofs.TestLaws.{any-more, any-hit}
+use Rattle.soundness.specs.Record.{entriesIn, alike, alikeAt, alikeLater}
+use Rattle.sector.proofs.TestLaws.{any-more, any-hit}
 use Rattle.soundness.proofs.DecodingLaws.{next-entry, no-entry}
 use Rattle.soundness.proofs.record.alike_later.Statement.{statement}
 use Rattle.soundness.proofs.record.alike_later.Tie as tie

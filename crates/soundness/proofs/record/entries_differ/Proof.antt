@@ -6,7 +6,7 @@ use Prim.Native.Nat.{_-_, _≤_}
 use lib.ListN.{drop}
 use Rattle.sector.specs.Lists.{distinct}
 use Rattle.soundness.specs.Record.{entriesIn, alike, alikeLater, entriesDiffer}
-use Rattle.soundness.proofs.TestLaws.{distinct-more, distinct-fails}
+use Rattle.sector.proofs.TestLaws.{distinct-more, distinct-fails}
 use Rattle.soundness.proofs.DecodingLaws.{next-entry, no-entry}
 use Rattle.soundness.proofs.record.entries_differ.Statement.{statement}
 use Rattle.soundness.proofs.record.entries_differ.Tie as tie

@@ -7,7 +7,7 @@ use borrow.Author.Tests.{not-true, not-false}
 use Rattle.sector.specs.Lists.{every, from}
 use Rattle.sector.specs.Decoding.{decodeTable}
 use Rattle.soundness.specs.Record.{entryTest, entriesTest}
-use Rattle.soundness.proofs.TestLaws.{numbers-more, numbers-fail, numbers-done, numbers-none}
+use Rattle.sector.proofs.TestLaws.{numbers-more, numbers-fail, numbers-done, numbers-none}
 use Rattle.soundness.proofs.record.entries_fit.Statement.{statement}
 use Rattle.soundness.proofs.record.entries_fit.Tie as tie
 

@@ -3,7 +3,7 @@ use borrow.Author.Needs.{needs}
 use mathlib.Core.Path.{sym, _∙_}
 use borrow.Author.Tests.{le-leb, lt-leb, not-true, not-false}
 use Rattle.soundness.specs.Table.{tableHeadTest}
-use Rattle.soundness.proofs.TestLaws.{all-no, all-last, final, _then_}
+use Rattle.sector.proofs.TestLaws.{all-no, all-last, final, _then_}
 use Rattle.soundness.proofs.table.head_fits.Statement.{statement}
 use Rattle.soundness.proofs.table.head_fits.Tie as tie
 

@@ -14,7 +14,7 @@ use lib.Dec.{eqb, ltb}
 use lib.ListN.{length, getD, set}
 use lib.Pow.{pow-add, pow-pos, pow-lt, shl-shr, shl-exact, high}
 use lib.Seq.{getD-set-same, getD-set-other}
-use Rattle.soundness.specs.Set.{noBytes, hasByte, withByte}
+use Rattle.byteset.specs.Set.{noBytes, hasByte, withByte}
 
 -- ------------------------------------------------------------------ the bits of one word
 -- Bit k of w, as the code tests it.

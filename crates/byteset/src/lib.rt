@@ -1,9 +1,9 @@
 // A set of bytes in four words of 64 bits: byte x is bit x % 64 of word x / 64.
-use crate::bytes::size;
+use sector::size;
 ghost use mathlib.Core.Path.{_≡_};
 ghost use Prim.Native.Nat.{_/_, _%_, _^_, _<_};
 ghost use lib.ListN.{length};
-ghost use Rattle.soundness.specs.Set.{hasByte, withByte};
+ghost use Rattle.byteset.specs.Set.{hasByte, withByte};
 
 // The byte as a word.
 fn wide(x: u8) -> u64

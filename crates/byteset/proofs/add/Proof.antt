@@ -1,9 +1,9 @@
 -- `byteset::add` meets its contract: the code's store is that of `withByte`.
 use borrow.Author.Needs.{needs}
 use lib.ListN.{length-set}
-use Rattle.soundness.specs.Set.{withByte}
-use Rattle.soundness.proofs.byteset.add.Statement.{statement}
-use Rattle.soundness.proofs.byteset.add.Tie as tie
+use Rattle.byteset.specs.Set.{withByte}
+use Rattle.byteset.proofs.add.Statement.{statement}
+use Rattle.byteset.proofs.add.Tie as tie
 
 index-requires : tie.Need-index-requires
 index-requires c κs = search needs

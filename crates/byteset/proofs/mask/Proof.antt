@@ -1,8 +1,8 @@
 -- `byteset::mask` meets its contract: the shift loses no bit, since it is by less than 64.
 use borrow.Author.Needs.{needs}
-use Rattle.soundness.proofs.SetLaws.{mask-is}
-use Rattle.soundness.proofs.byteset.mask.Statement.{statement}
-use Rattle.soundness.proofs.byteset.mask.Tie as tie
+use Rattle.byteset.proofs.SetLaws.{mask-is}
+use Rattle.byteset.proofs.mask.Statement.{statement}
+use Rattle.byteset.proofs.mask.Tie as tie
 
 wide-requires : tie.Need-wide-requires
 wide-requires c κs = search needs

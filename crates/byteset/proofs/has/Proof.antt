@@ -1,8 +1,8 @@
 -- `byteset::has` meets its contract: the code's expression is that of `hasByte`.
 use borrow.Author.Needs.{needs}
-use Rattle.soundness.specs.Set.{hasByte}
-use Rattle.soundness.proofs.byteset.has.Statement.{statement}
-use Rattle.soundness.proofs.byteset.has.Tie as tie
+use Rattle.byteset.specs.Set.{hasByte}
+use Rattle.byteset.proofs.has.Statement.{statement}
+use Rattle.byteset.proofs.has.Tie as tie
 
 index-requires : tie.Need-index-requires
 index-requires c κs = search needs
