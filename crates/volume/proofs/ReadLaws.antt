@@ -13,7 +13,7 @@ use Rattle.sector.proofs.ListLaws.{all-at, every-at, between-true}
 use Rattle.sector.proofs.CodecLaws.{decode-files-length, file-at, decoded-count, decoded-entry, map-at}
 use Rattle.volume.specs.Places.{IsClient, IsFile, IsPage, noFile, fileAt, headerSector, recordPlace, headerPlace, slotPlace}
 use Rattle.volume.specs.Views.{View}
-use Rattle.volume.specs.Lawful.{fileFits}
+use Rattle.volume.specs.Lawful.{fileFits, entryFits}
 use Rattle.volume.specs.Volumes.{view}
 use Rattle.volume.specs.Known.{Known, HasEntry, noEntry}
 use Rattle.volume.proofs.PlaceLaws.{place-inside, end-low, file-ends}
@@ -95,3 +95,11 @@ module _ (v : Volume) (known : Known v) where
   pub entry-in : (k i : ℕ) → HasEntry (view v) k i → entryIn (sector v k) i ≡ getD (view v .records k .entries) i noEntry
   entry-in k i h = sym (ap (λ (r : Record). getD (r .entries) i noEntry) (record-is v k (h .client .low) (h .client .high))
       ∙ decoded-entry (sector v k) i noEntry (omega (arith, count-in k (h .client), h .below)))
+
+  -- The entry's file, page and slot exist.
+  pub entry-fits : (k i : ℕ) → HasEntry (view v) k i → entryFits (view v .table) (getD (view v .records k .entries) i noEntry) ≡ true
+  entry-fits k i h = every-at (entryFits (view v .table)) (view v .records k .entries) i noEntry
+      (all-at _ 2 (known .record-fits k (h .client .low) (h .client .high))) (h .below)
+
+  pub entry-file-is : (k i : ℕ) → HasEntry (view v) k i → IsFile (view v .table) (getD (view v .records k .entries) i noEntry .file)
+  entry-file-is k i h = record { low = leb-true _ _ (all-at _ 0 (entry-fits k i h)); high = leb-true _ _ (all-at _ 1 (entry-fits k i h)) }

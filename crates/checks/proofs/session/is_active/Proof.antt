@@ -1,31 +1,19 @@
+-- `is_active` meets its contract: client k's mark is the one with index k − 1.
 use borrow.Author.Needs.{needs}
-use native.Mathlib.Omega.{arith}
-use Prim.Native.Nat.{ℕ, suc, _+_, _*_, _-_, _≤_, _<_}
-use mathlib.Core.Path.{_≡_, refl, sym, ap, _∙_}
-use mathlib.Core.List.{List, [], _∷_, _++_}
-use mathlib.Core.Logic.{⊎-elim}
-use lib.ListN.{length, take, drop, getD, set, length-set}
 use Rattle.checks.proofs.session.is_active.Statement.{statement}
 use Rattle.checks.proofs.session.is_active.Tie as tie
-use Rattle.checks.proofs.session.is_active.Reads as reads
-use Rattle.checks.proofs.session.is_active.Lts as lts
-use Rattle.sector.proofs.size.Reads as size-reads
 
--- src/session.rt:19:14
 size-requires : tie.Need-size-requires
 size-requires c κs = search needs
 
--- src/session.rt:19:14
 sub-at : tie.Need-sub-at
 sub-at c = search needs
 
--- src/session.rt:20:5
 element-copy-out-result : tie.Need-element-copy-out-result
 element-copy-out-result c = search needs
 
--- src/session.rt:15:1
 returns : tie.Need-returns
-returns c = search needs
+returns c = rw (c .before .size .ensures .0)
 
 pub is-active-spec : {M : Type 1} → statement M
 is-active-spec = tie.close (tie.spec size-requires sub-at element-copy-out-result returns)

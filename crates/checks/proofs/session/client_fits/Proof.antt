@@ -1,0 +1,22 @@
+-- `client_fits` meets its contract: the mark is looked at first.
+use mathlib.Core.Path.{sym, _∙_}
+use borrow.Author.Needs.{needs}
+use Rattle.checks.proofs.session.client_fits.Statement.{statement}
+use Rattle.checks.proofs.session.client_fits.Tie as tie
+
+is-active-requires : tie.Need-is-active-requires
+is-active-requires c κs = search needs
+
+mark-fits-requires : tie.Need-mark-fits-requires
+mark-fits-requires c κs = search needs
+
+returns : tie.Need-returns
+returns c =
+    let t = c .before in
+    rw (sym (t .before .is-active .ensures) ∙ t .if1 .taken) (c .mark-fits .ensures)
+
+returns-2 : tie.Need-returns-2
+returns-2 c = rw (sym (c .before .is-active .ensures) ∙ c .if1 .left)
+
+pub client-fits-spec : {M : Type 1} → statement M
+client-fits-spec = tie.close (tie.spec is-active-requires mark-fits-requires returns returns-2)
