@@ -1,0 +1,151 @@
+// The tests of each call, lowest number first. None is tested by another call before.
+use crate::Verdict;
+use crate::session::is_active;
+use crate::session::session_fits;
+use interface::Refusal;
+use interface::Session;
+ghost use mathlib.Core.Path.{_≡_};
+ghost use mathlib.Core.Bool.{true};
+ghost use Prim.Native.Nat.{_≤_};
+ghost use Rattle.sector.specs.Lists.{first};
+ghost use Rattle.sector.specs.Contents.{Table};
+ghost use Rattle.volume.specs.Places.{IsFile};
+ghost use Rattle.volume.specs.Views.{View};
+ghost use Rattle.volume.specs.Volumes.{view};
+ghost use Rattle.volume.specs.Sound.{sound};
+ghost use Rattle.rules.specs.Plans.{begin, openFile, commit};
+ghost use Rattle.rules.specs.Refusals.{heldByOther, tests, readTests};
+ghost use Rattle.checks.specs.Verdicts.{numberOf, clientTests, beginTests, activeTests, openTests, pageTests};
+
+// Tests 1 to 3: the volume is sound, the session fits it, and client k exists.
+fn check_client(v: &[u8], s: Session, k: u8) -> Verdict
+    ensures { λ r. ⌜ numberOf r ≡ first (clientTests (sound (now (v .entry))) (view (now (v .entry))) s k) ⌝ }
+{
+    if !soundness::is_sound(v) {
+        return Verdict::Refused(Refusal::NotSound);
+    }
+    if !session_fits(v, s) {
+        return Verdict::Refused(Refusal::BadSession);
+    }
+    if k < 1 {
+        return Verdict::Refused(Refusal::NoClient);
+    }
+    if volume::clients(v) < k {
+        return Verdict::Refused(Refusal::NoClient);
+    }
+    Verdict::Accepted
+}
+
+// Test 4: client k has no transaction running.
+fn check_inactive(s: Session, k: u8) -> Verdict
+    requires { ⌜ (1 ≤ k) × (k ≤ 4) ⌝ }
+    ensures { λ r. ⌜ numberOf r ≡ first (beginTests s k) ⌝ }
+{
+    if is_active(s, k) {
+        return Verdict::Refused(Refusal::AlreadyActive);
+    }
+    Verdict::Accepted
+}
+
+// Test 5: client k has one running.
+fn check_running(s: Session, k: u8) -> Verdict
+    requires { ⌜ (1 ≤ k) × (k ≤ 4) ⌝ }
+    ensures { λ r. ⌜ numberOf r ≡ first (activeTests s k) ⌝ }
+{
+    if is_active(s, k) {
+        return Verdict::Accepted;
+    }
+    Verdict::Refused(Refusal::NotActive)
+}
+
+// Whether a client other than k that is active holds file f.
+fn held_by_other(v: &[u8], s: Session, k: u8, f: u8) -> bool
+    requires { ⌜ (sound (now v) ≡ true) × IsFile (view (now v) .table) f ⌝ }
+    ensures { λ r. ⌜ r ≡ heldByOther (view (now (v .entry))) s k f ⌝ }
+{
+    let h = volume::holder(v, f);
+    if h == 0 {
+        return false;
+    }
+    if h == k {
+        return false;
+    }
+    is_active(s, h)
+}
+
+// Tests 6 and 7: file f exists, and no other active client holds it.
+fn check_free(v: &[u8], s: Session, k: u8, f: u8) -> Verdict
+    requires { ⌜ sound (now v) ≡ true ⌝ }
+    ensures { λ r. ⌜ numberOf r ≡ first (openTests (view (now (v .entry))) s k f) ⌝ }
+{
+    if f < 1 {
+        return Verdict::Refused(Refusal::NoFile);
+    }
+    if volume::files(v) < f {
+        return Verdict::Refused(Refusal::NoFile);
+    }
+    if held_by_other(v, s, k, f) {
+        return Verdict::Refused(Refusal::FileInUse);
+    }
+    Verdict::Accepted
+}
+
+// Tests 6, 8 and 9: file f exists, client k holds it, and it has page p.
+fn check_page(v: &[u8], k: u8, f: u8, p: u8) -> Verdict
+    requires { ⌜ sound (now v) ≡ true ⌝ }
+    ensures { λ r. ⌜ numberOf r ≡ first (pageTests (view (now (v .entry))) k f p) ⌝ }
+{
+    if f < 1 {
+        return Verdict::Refused(Refusal::NoFile);
+    }
+    if volume::files(v) < f {
+        return Verdict::Refused(Refusal::NoFile);
+    }
+    if volume::holder(v, f) != k {
+        return Verdict::Refused(Refusal::NotHeld);
+    }
+    if volume::pages(v, f) <= p {
+        return Verdict::Refused(Refusal::NoPage);
+    }
+    Verdict::Accepted
+}
+
+// The tests of begin.
+pub fn check_begin(v: &[u8], s: Session, k: u8) -> Verdict
+    ensures { λ r. ⌜ numberOf r ≡ first (tests (sound (now (v .entry))) (view (now (v .entry))) s (begin k)) ⌝ }
+{
+    match check_client(v, s, k) {
+        Verdict::Refused(r) => Verdict::Refused(r),
+        Verdict::Accepted => check_inactive(s, k),
+    }
+}
+
+// The tests of commit, and of abort.
+pub fn check_active(v: &[u8], s: Session, k: u8) -> Verdict
+    ensures { λ r. ⌜ numberOf r ≡ first (tests (sound (now (v .entry))) (view (now (v .entry))) s (commit k)) ⌝ }
+{
+    match check_client(v, s, k) {
+        Verdict::Refused(r) => Verdict::Refused(r),
+        Verdict::Accepted => check_running(s, k),
+    }
+}
+
+// The tests of open.
+pub fn check_open(v: &[u8], s: Session, k: u8, f: u8) -> Verdict
+    ensures { λ r. ⌜ numberOf r ≡ first (tests (sound (now (v .entry))) (view (now (v .entry))) s (openFile k f)) ⌝ }
+{
+    match check_active(v, s, k) {
+        Verdict::Refused(r) => Verdict::Refused(r),
+        Verdict::Accepted => check_free(v, s, k, f),
+    }
+}
+
+// The tests of read.
+pub fn check_read(v: &[u8], s: Session, k: u8, f: u8, p: u8) -> Verdict
+    ensures { λ r. ⌜ numberOf r ≡ first (readTests (sound (now (v .entry))) (view (now (v .entry))) s k f p) ⌝ }
+{
+    match check_active(v, s, k) {
+        Verdict::Refused(r) => Verdict::Refused(r),
+        Verdict::Accepted => check_page(v, k, f, p),
+    }
+}
