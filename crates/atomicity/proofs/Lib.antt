@@ -3,6 +3,6 @@ pub mod PlanLaws
 pub mod WriteLaws
 pub mod PendingLaws
 pub mod RelationLaws
-pub mod CallLaws
 pub mod Theorem
 pub mod ReturnLaws
+pub mod SoundLaws

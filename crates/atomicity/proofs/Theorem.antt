@@ -10,7 +10,7 @@ use Prim.Native.Nat.{ℕ, zero, suc, _+_, _<_}
 use native.Mathlib.Omega.{arith}
 use lib.ListN.{length, getD, replicate}
 use Rattle.interface.specs.declared.Session.{Session}
-use Rattle.interface.specs.Answers.{newSession, done, crashed}
+use Rattle.interface.specs.Answers.{newSession, refused}
 use Rattle.sector.specs.Lists.{if_then_else_, first}
 use Rattle.sector.specs.Contents.{Bytes, File, Table, Entry, Header}
 use Rattle.sector.specs.Sectors.{Volume, sector}
@@ -22,7 +22,7 @@ use Rattle.volume.specs.Views.{View, Update}
 use Rattle.volume.specs.Volumes.{view}
 use Rattle.volume.specs.Sound.{sound}
 use Rattle.volume.specs.Format.{tableFor, newVolume, format}
-use Rattle.volume.specs.Stores.{Store, stored, allStores}
+use Rattle.volume.specs.Stores.{stored, allStores}
 use Rattle.volume.proofs.PlaceLaws.{IsFile}
 use Rattle.volume.proofs.StoreLaws.{Shaped, sound-shaped, AllPlaced, view-stores, view-prefix}
 use Rattle.volume.proofs.AccessLaws.{slot-is}
@@ -32,58 +32,49 @@ use Rattle.volume.proofs.AlongLaws.{along-placed}
 use Rattle.rules.specs.Sessions.{noneActive}
 use Rattle.rules.specs.Plans.{Call, begin, openFile, write, commit, abort, entryFor, slotFor, plan, sessionAfter}
 use Rattle.rules.specs.Refusals.{tests, readTests}
-use Rattle.rules.specs.Calls.{After, executed, callBy, call, readBy, read}
+use Rattle.rules.specs.Calls.{After, call, read}
 use Rattle.rules.specs.Content.{decidedMap, decidedContent}
-use Rattle.rules.proofs.ExecutedLaws.{executed-case}
+use Rattle.rules.proofs.CallLaws.{call-case, read-case}
 use Rattle.rules.proofs.SessionLaws.{none-active}
 use Rattle.rules.proofs.AllowedLaws.{Active, MayAct, MayRead, Allowed, readable, allowed, allowed-sound}
 use Rattle.rules.proofs.ContentLaws.{unheld-map, decided-slot}
-use Rattle.atomicity.specs.Model.{noPending, Model, newModel, orElse, shown, effect, settled, modelCall}
+use Rattle.atomicity.specs.Model.{noPending, Model, newModel, orElse, shown, emptied, effect, settled, modelCall}
 use Rattle.atomicity.specs.Runs.{Step, calls, reads, Run, started, given, stepped}
 use Rattle.atomicity.specs.AllOrNone.{ContentAgrees, ReadAgrees, Agrees, AllOrNone}
 use Rattle.atomicity.proofs.KeepLaws.{bytesFor, pendingIn}
-use Rattle.atomicity.proofs.WriteLaws.{own-record, own-map}
+use Rattle.atomicity.proofs.WriteLaws.{own-record, own-map, plan-lawful}
 use Rattle.atomicity.proofs.RelationLaws.{Matches, Faithful, faithful, faithful-matches, new-matches, Outcome, outcome}
-use Rattle.atomicity.proofs.CallLaws.{plan-lawful}
 
 -- Volume and session are related to the model.
 abbrev pub Related : Run → Type 0
 Related r = Matches (view (r .volume)) (r .session) (r .model)
 
 -- ------------------------------------------------------------------ a call
--- What a call leaves, related to the model after it.
-abbrev MatchesAfter : Model → Call → After → Type 0
-MatchesAfter m c x = Matches (view (x .volume)) (x .session) (settled (x .answer) (effect m c (x .answer)))
-
--- By the number of the refusal, 0 for none.
-called-matches : (v : Volume) (s : Session) (m : Model) → Faithful (view v) s m → (c : Call) (budget n : ℕ)
-    → first (tests (sound v) (view v) s c) ≡ n → MatchesAfter m c (callBy n v s c budget)
-called-matches v s m h (begin k) budget (suc n) e = faithful-matches (view v) s m h
-called-matches v s m h (openFile k f) budget (suc n) e = faithful-matches (view v) s m h
-called-matches v s m h (write k f p d) budget (suc n) e = faithful-matches (view v) s m h
-called-matches v s m h (commit k) budget (suc n) e = faithful-matches (view v) s m h
-called-matches v s m h (abort k) budget (suc n) e = faithful-matches (view v) s m h
-called-matches v s m h c budget zero e =
-    executed-case (MatchesAfter m c) v s c budget (allStores (view v .table) updates)
-    (rw (view-stores v updates shaped placed) (o .ends _))
-    (rw (view-prefix v updates budget shaped placed) (new-matches _ _ (o .cuts budget)))
-  where
-    updates : List Update
-    updates = plan (view v) s c
-    w : Allowed (view v) s c
-    w = allowed v s c e
-    o : Outcome (view v) s m c
-    o = outcome (view v) s m h c w
-    shaped : Shaped (view v .table) v
-    shaped = sound-shaped v (allowed-sound v s c e)
-    placed : AllPlaced (view v .table) (plan (view v) s c)
-    placed = along-placed (plan-lawful (view v) s c w)
+refused-matches : (a : View) (s : Session) (m : Model) → Faithful a s m → (c : Call) (n : ℕ) → Matches a s (effect m c (refused n))
+refused-matches a s m h (begin k) n = faithful-matches a s m h
+refused-matches a s m h (openFile k f) n = faithful-matches a s m h
+refused-matches a s m h (write k f p d) n = faithful-matches a s m h
+refused-matches a s m h (commit k) n = faithful-matches a s m h
+refused-matches a s m h (abort k) n = faithful-matches a s m h
 
 call-matches : (v : Volume) (s : Session) (m : Model) → Matches (view v) s m → (c : Call) (budget : ℕ)
     → let x = call v s c budget in Matches (view (x .volume)) (x .session) (modelCall m s c (x .answer))
-unfolding call modelCall
-call-matches v s m h c budget =
-    called-matches v s _ (faithful (view v) s m h) c budget (first (tests (sound v) (view v) s c)) refl
+unfolding modelCall
+call-matches v s m h c budget = call-case (λ (x : After). Matches (view (x .volume)) (x .session) (settled (x .answer) (effect m′ c (x .answer))))
+    v s c budget (λ n e. refused-matches (view v) s m′ clear c (suc n))
+    (λ e. rw (view-stores v updates (shaped e) (placed e)) (outcome (view v) s m′ clear c (allowed v s c e) .ends _))
+    (λ e. rw (view-prefix v updates budget (shaped e) (placed e)) (new-matches _ _ (outcome (view v) s m′ clear c (allowed v s c e) .cuts budget)))
+  where
+    m′ : Model
+    m′ = if noneActive s then emptied m else m
+    clear : Faithful (view v) s (if noneActive s then emptied m else m)
+    clear = faithful (view v) s m h
+    updates : List Update
+    updates = plan (view v) s c
+    shaped : first (tests (sound v) (view v) s c) ≡ 0 → Shaped (view v .table) v
+    shaped e = sound-shaped v (allowed-sound v s c e)
+    placed : first (tests (sound v) (view v) s c) ≡ 0 → AllPlaced (view v .table) (plan (view v) s c)
+    placed e = along-placed (plan-lawful (view v) s c (allowed v s c e))
 
 -- ------------------------------------------------------------------ a read
 -- The slot that a read finds is one of the file's, and has what the model shows.
@@ -104,15 +95,15 @@ read-pending a s m h k w = h .tracked some k (w .low) (w .high) .active (w .on)
     some : noneActive s ≡ false
     some = by-test (noneActive s) (λ e. no-both _ (w .on) (none-active s k e)) (λ e. e)
 
-read-matches : (v : Volume) (s : Session) (m : Model) → Matches (view v) s m → (k f p n : ℕ)
-    → first (readTests (sound v) (view v) s k f p) ≡ n → ReadAgrees v m k f p (readBy n (view v) k f p)
-read-matches v s m h k f p (suc n) e = tt
-read-matches v s m h k f p zero e =
-    let w : MayRead (view v) s k f p = readable v s k f p e in
-    let x = slot-shown (view v) s m h k f p w (entryFor (view v) k f p) refl in
-    let y : sector v (sectorOf (view v .table) (slotPlace f (slotFor (view v) f p (entryFor (view v) k f p)))) ≡ shown m k f p =
-    sym (slot-is v f _ (w .file) (x .1)) ∙ x .0 ∙ rw (read-pending (view v) s m h k (w .act .active)) in
-    (y, y)
+read-matches : (v : Volume) (s : Session) (m : Model) → Matches (view v) s m → (k f p : ℕ) → ReadAgrees v m k f p (read v s k f p)
+read-matches v s m h k f p = read-case (ReadAgrees v m k f p) v s k f p (λ n e. tt) (λ e. (same e, same e))
+  where
+    same : first (readTests (sound v) (view v) s k f p) ≡ 0
+        → sector v (sectorOf (view v .table) (slotPlace f (slotFor (view v) f p (entryFor (view v) k f p)))) ≡ shown m k f p
+    same e =
+        let w : MayRead (view v) s k f p = readable v s k f p e in
+        let x = slot-shown (view v) s m h k f p w (entryFor (view v) k f p) refl in
+        sym (slot-is v f _ (w .file) (x .1)) ∙ x .0 ∙ rw (read-pending (view v) s m h k (w .act .active))
 
 -- ------------------------------------------------------------------ every list of steps
 given-matches : (a : View) (s : Session) (m : Model) (crash : Bool) → Matches a s m → Matches a (given crash s) m
@@ -124,7 +115,7 @@ content-agrees r h f p lo hi lt = h .pages f p (record { low = lo; high = hi }) 
 
 -- From any start that is related.
 pub agrees : (r : Run) (steps : List Step) → Related r → Agrees r steps
-unfolding stepped read
+unfolding stepped
 agrees r [] h = content-agrees r h
 agrees r (calls crash c budget ∷ xs) h =
     let g : Matches (view (r .volume)) (given crash (r .session)) (r .model) = given-matches _ _ _ crash h in
@@ -132,7 +123,7 @@ agrees r (calls crash c budget ∷ xs) h =
     agrees (stepped r (calls crash c budget)) xs (call-matches (r .volume) (given crash (r .session)) (r .model) g c budget))
 agrees r (reads crash k f p ∷ xs) h =
     let g : Matches (view (r .volume)) (given crash (r .session)) (r .model) = given-matches _ _ _ crash h in
-    (content-agrees r h, read-matches (r .volume) (given crash (r .session)) (r .model) g k f p _ refl, agrees r xs h)
+    (content-agrees r h, read-matches (r .volume) (given crash (r .session)) (r .model) g k f p, agrees r xs h)
 
 -- A volume with the decided content that it has, and a new session.
 abbrev pub startedAs : Volume → Run

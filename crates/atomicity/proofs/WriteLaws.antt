@@ -20,21 +20,21 @@ use Rattle.sector.proofs.ListLaws.{all-nil, all-cons, find-has}
 use Rattle.sector.proofs.CaseLaws.{by-equal, eqb-sym}
 use Rattle.sector.proofs.SearchLaws.{every-implies, any-none, none-found, every-end, distinct-end, not-member}
 use Rattle.volume.specs.Places.{fileAt}
-use Rattle.volume.specs.Views.{View, setRecord, setSlot, changed}
+use Rattle.volume.specs.Views.{View, Update, setRecord, setSlot, changed}
 use Rattle.volume.specs.Lawful.{entryFits, apart}
 use Rattle.volume.proofs.PlaceLaws.{IsFile}
 use Rattle.volume.proofs.ViewLaws.{Placed}
 use Rattle.volume.proofs.LawfulLaws.{RecordFacts, EntryFacts, Lawful, entry-facts, lawful-record, placed-record}
-use Rattle.volume.proofs.AlongLaws.{last, step}
+use Rattle.volume.proofs.AlongLaws.{Along, last, step, along-map}
 use Rattle.rules.specs.Recovery.{isDecided, recovery}
-use Rattle.rules.specs.Plans.{entryFor, chosen, appended, writePlan}
+use Rattle.rules.specs.Plans.{Call, begin, openFile, write, commit, abort, entryFor, chosen, appended, writePlan, plan}
 use Rattle.rules.specs.Content.{decidedMap}
-use Rattle.rules.proofs.AllowedLaws.{Others, Running, MayAct, MayRead, MayWrite, running-undecided, running-foreign}
+use Rattle.rules.proofs.AllowedLaws.{Others, Running, MayAct, MayRead, MayWrite, Allowed, running-undecided, running-foreign}
 use Rattle.rules.proofs.ChoiceLaws.{Free, chosen-free}
 use Rattle.rules.proofs.ContentLaws.{held-map}
 use Rattle.rules.proofs.RecoveryLaws.{decidedView, recovery-decided}
 use Rattle.atomicity.proofs.KeepLaws.{Keeps, keeps-self, keep-record, keep-slot}
-use Rattle.atomicity.proofs.PlanLaws.{KeptAlong, recovery-along}
+use Rattle.atomicity.proofs.PlanLaws.{KeptAlong, recovery-along, abort-along, begin-along, open-along}
 
 -- ------------------------------------------------------------------ an active client
 module _ (a : View) (s : Session) (k : ℕ) (w : MayAct a s k) where
@@ -135,7 +135,7 @@ module _ (a : View) (s : Session) (k : ℕ) (w : MayAct a s k) where
       let x : RecordFacts (a .table) (a .records k) = own-record a s k w in
       record { state = omega arith; few = x .few; fit = x .fit; pages = x .pages; slots = x .slots; idle = refl }
 
-  pub decided-placed : Placed (a .table) (setRecord k (decidedRecord (a .records k)))
+  decided-placed : Placed (a .table) (setRecord k (decidedRecord (a .records k)))
   decided-placed = placed-record (a .table) a (w .ready .laws) k (decidedRecord (a .records k)) (w .active .low) (w .running .client) decided-facts
 
   decided-laws : Lawful (a .table) (decidedView a k)
@@ -144,3 +144,16 @@ module _ (a : View) (s : Session) (k : ℕ) (w : MayAct a s k) where
 
   pub commit-along : KeptAlong (decidedView a k) s k (decidedView a k) (recovery true a k)
   commit-along = rw (recovery-decided a k) (recovery-along (decidedView a k) s k decided-laws (w .active .low) (w .running .client))
+
+-- ------------------------------------------------------------------ every call
+-- The view is lawful before each update and after the last, and each update has its place.
+kept-lawful : {a₀ a : View} {s : Session} {k : ℕ} {xs : List Update} → KeptAlong a₀ s k a xs → Along (a₀ .table) (Lawful (a₀ .table)) a xs
+kept-lawful = along-map (λ b kept. kept .laws)
+
+pub plan-lawful : (a : View) (s : Session) (c : Call) → Allowed a s c → Along (a .table) (Lawful (a .table)) a (plan a s c)
+unfolding plan
+plan-lawful a s (begin k) w = kept-lawful (begin-along a s k w)
+plan-lawful a s (openFile k f) w = kept-lawful (open-along a s k f w)
+plan-lawful a s (write k f p d) w = kept-lawful (write-along a s k f p d w (entryFor a k f p) refl)
+plan-lawful a s (commit k) w = step (w .ready .laws) (decided-placed a s k w) (kept-lawful (commit-along a s k w))
+plan-lawful a s (abort k) w = kept-lawful (abort-along a s k w)

@@ -1,12 +1,10 @@
--- Stores of updates leave every control sector the encoding of what is read from it; and what makes a volume sound.
+-- Stores of updates leave every control sector the encoding of what is read from it.
 -- In the update's place stands an encoding from then on, in every other place what stood there. No view is looked at.
 use mathlib.Core.Path.{_≡_, refl, sym, ap, _∙_, subst}
 use mathlib.Core.Bool.{Bool, true, false}
 use mathlib.Core.List.{List, [], _∷_}
-use mathlib.Core.Logic.{_≢_}
-use Prim.Native.Nat.{ℕ, _*_, _≤_}
+use Prim.Native.Nat.{ℕ}
 use native.Mathlib.Omega.{arith}
-use borrow.Author.Tests.{eqb-true, eq-eqb}
 use lib.ListN.{length}
 use Rattle.sector.specs.Lists.{same}
 use Rattle.sector.specs.Contents.{Bytes, Table, Record, Header}
@@ -15,15 +13,14 @@ use Rattle.sector.specs.Encoding.{encodeTable, encodeRecord, encodeHeader}
 use Rattle.sector.proofs.ListLaws.{no-both, all-nil, all-cons, all-at, every-from, every-all, same-refl}
 use Rattle.sector.proofs.CaseLaws.{by-test}
 use Rattle.sector.proofs.CodecLaws.{record-back, header-back}
-use Rattle.volume.specs.Places.{fileAt, endSector, Place, tablePlace, recordPlace, headerPlace, slotPlace}
-use Rattle.volume.specs.Views.{View, Update, setRecord, setHeader, setSlot, placeOf}
-use Rattle.volume.specs.Lawful.{lawful}
-use Rattle.volume.specs.Volumes.{tableOf, bytesAt, view}
-use Rattle.volume.specs.Sound.{isRecordEncoding, isHeaderEncoding, encoded, canonical, sound}
+use Rattle.volume.specs.Places.{fileAt, Place, tablePlace, recordPlace, headerPlace, slotPlace}
+use Rattle.volume.specs.Views.{Update, setRecord, setHeader, setSlot, placeOf}
+use Rattle.volume.specs.Volumes.{bytesAt}
+use Rattle.volume.specs.Sound.{isRecordEncoding, isHeaderEncoding, encoded}
 use Rattle.volume.specs.Stores.{stored, bytesOf, allStores}
-use Rattle.volume.proofs.PlaceLaws.{IsFile, Exists}
+use Rattle.volume.proofs.PlaceLaws.{Exists}
 use Rattle.volume.proofs.ViewLaws.{Placed, Changed}
-use Rattle.volume.proofs.StoreLaws.{Shaped, sound-shaped, updated, updated-shaped, updated-changed, AllPlaced}
+use Rattle.volume.proofs.StoreLaws.{Shaped, updated, updated-shaped, updated-changed, AllPlaced}
 
 -- ------------------------------------------------------------------ the test of each place
 -- The bytes are what a place may hold.
@@ -37,7 +34,7 @@ abbrev pub Encoded : Table → (Place → Bytes) → Type 0
 Encoded t at = (p : Place) → Exists t p → isEncoding t p (at p) ≡ true
 
 module _ (t : Table) (at : Place → Bytes) where
-  encoded-facts : encoded t at ≡ true → Encoded t at
+  pub encoded-facts : encoded t at ≡ true → Encoded t at
   unfolding encoded
   encoded-facts e tablePlace x = all-at _ 0 e
   encoded-facts e (recordPlace k) x = every-from (λ k. isRecordEncoding (at (recordPlace k))) (t .clients) 1 (all-at _ 1 e) k (x .0) (omega arith)
@@ -45,7 +42,7 @@ module _ (t : Table) (at : Place → Bytes) where
       every-from (λ f. isHeaderEncoding (fileAt t f) (at (headerPlace f))) (length (t .files)) 1 (all-at _ 2 e) f (x .low) (omega arith)
   encoded-facts e (slotPlace f r) x = refl
 
-  facts-encoded : Encoded t at → encoded t at ≡ true
+  pub facts-encoded : Encoded t at → encoded t at ≡ true
   unfolding encoded
   facts-encoded h =
       all-cons _ (h tablePlace tt)
@@ -88,19 +85,3 @@ canonical-stores t (x ∷ xs) v c p = canonical-stores t xs (updated t v x) next
       shaped = updated-shaped t v x (c .shaped) (p .0);
       bytes = encoded-changed t _ _ x (p .0) (updated-changed t v x (c .shaped) (p .0)) (c .bytes);
     }
-
--- ------------------------------------------------------------------ sound
--- A sound volume is lawful and canonical, and these make it sound.
-module _ (v : Volume) where
-  pub sound-lawful : sound v ≡ true → lawful (view v) ≡ true
-  unfolding sound
-  sound-lawful e = all-at _ 0 e
-
-  pub sound-canonical : sound v ≡ true → Canonical (view v .table) v
-  unfolding sound canonical view
-  sound-canonical e = record { shaped = sound-shaped v e; bytes = encoded-facts (tableOf v) (bytesAt (tableOf v) v) (all-at _ 1 (all-at _ 1 e)) }
-
-  pub sound-by : (t : Table) → view v .table ≡ t → lawful (view v) ≡ true → Canonical t v → sound v ≡ true
-  unfolding sound canonical view
-  sound-by t e l c = all-cons _ l (all-cons _
-      (rw e (all-cons _ (eq-eqb _ _ (c .shaped .size)) (all-cons _ (facts-encoded t (bytesAt t v) (c .bytes)) all-nil))) all-nil)

@@ -31,7 +31,8 @@ use Rattle.volume.proofs.PlaceLaws.{IsFile}
 use Rattle.volume.proofs.StoreLaws.{Shaped}
 use Rattle.volume.proofs.AccessLaws.{table-is, record-is, header-is, slot-is}
 use Rattle.volume.proofs.LawfulLaws.{TableFacts, FileFacts, MapFacts, HeaderFacts, Lawful, file-facts, idle-facts, facts-lawful}
-use Rattle.volume.proofs.CanonicalLaws.{Encoded, record-encoding, header-encoding, Canonical, sound-by}
+use Rattle.volume.proofs.CanonicalLaws.{Encoded, record-encoding, header-encoding}
+use Rattle.volume.proofs.SoundLaws.{sound-by}
 
 -- ------------------------------------------------------------------ lists
 abbrev zeros : ℕ → Bytes

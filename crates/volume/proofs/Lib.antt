@@ -5,4 +5,5 @@ pub mod AccessLaws
 pub mod LawfulLaws
 pub mod AlongLaws
 pub mod CanonicalLaws
+pub mod SoundLaws
 pub mod FormatLaws
