@@ -12,7 +12,7 @@ use lib.Dec.{eqb}
 use lib.ListN.{getD}
 use Rattle.interface.specs.declared.Session.{Session}
 use Rattle.sector.specs.Lists.{if_then_else_, every, find}
-use Rattle.sector.specs.Contents.{Bytes, File, Table, Entry, Record, Header}
+use Rattle.sector.specs.Contents.{Bytes, Entry, Record, Header}
 use Rattle.sector.specs.Entries.{forPage, givesSlot, redone}
 use Rattle.sector.proofs.ListLaws.{and-left, and-right, find-has}
 use Rattle.sector.proofs.CaseLaws.{by-equal, if-test, if-equal}

@@ -2,23 +2,22 @@
 -- A slot is given by one entry of the record, so a page stored in it is the only one that changes. A map that is redone gives
 -- each page the slot of its entry, so the content decided by a commit is the pending pages over the content before.
 use mathlib.Core.Path.{_≡_, refl, sym, ap, _∙_}
-use mathlib.Core.Bool.{Bool, true, false, not, _&&_}
+use mathlib.Core.Bool.{Bool, true, false, _&&_}
 use mathlib.Core.List.{List, [], _∷_, _++_}
 use mathlib.Core.Logic.{_≢_}
 use mathlib.Core.Option.{Option, none, some}
-use Prim.Native.Nat.{ℕ, _<_}
+use Prim.Native.Nat.{ℕ}
 use native.Mathlib.Omega.{arith}
 use borrow.Author.Tests.{eqb-true, eq-eqb, ne-eqb}
 use lib.Dec.{eqb}
 use lib.ListN.{getD}
 use Rattle.interface.specs.declared.Session.{Session}
 use Rattle.sector.specs.Lists.{if_then_else_, any, find}
-use Rattle.sector.specs.Contents.{Bytes, File, Table, Entry, Record, Header}
+use Rattle.sector.specs.Contents.{Bytes, Table, Entry, Record}
 use Rattle.sector.specs.Entries.{forPage, givesSlot, redone}
 use Rattle.sector.proofs.ListLaws.{and-left, and-right, and-both, no-both}
 use Rattle.sector.proofs.CaseLaws.{by-test, by-equal, if-test, eqb-sym}
 use Rattle.sector.proofs.SearchLaws.{none-some, any-none, find-none, find-same, orFound, find-end}
-use Rattle.volume.specs.Places.{fileAt}
 use Rattle.volume.specs.Views.{View, setSlot, changed}
 use Rattle.volume.proofs.PlaceLaws.{IsFile}
 use Rattle.volume.proofs.LawfulLaws.{RecordFacts, EntryFacts, entry-facts}

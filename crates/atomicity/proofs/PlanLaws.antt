@@ -7,13 +7,13 @@ use mathlib.Core.List.{List, [], _∷_, _++_, append-assoc}
 use mathlib.Core.Logic.{_≢_}
 use Prim.Native.Nat.{ℕ, _≤_}
 use native.Mathlib.Omega.{arith}
-use borrow.Author.Tests.{eqb-true, eq-eqb, ne-eqb, not-false}
+use borrow.Author.Tests.{eqb-true, ne-eqb, not-false}
 use lib.Dec.{eqb}
 use Rattle.interface.specs.declared.Session.{Session}
-use Rattle.sector.specs.Lists.{if_then_else_, every, member}
-use Rattle.sector.specs.Contents.{Table, Record, Header, idleRecord, openRecord}
+use Rattle.sector.specs.Lists.{every, member}
+use Rattle.sector.specs.Contents.{Table, Header, idleRecord, openRecord}
 use Rattle.sector.proofs.ListLaws.{and-left, and-right, or-right, no-both}
-use Rattle.sector.proofs.CaseLaws.{by-equal, if-test, if-equal}
+use Rattle.sector.proofs.CaseLaws.{if-test, if-equal}
 use Rattle.volume.specs.Places.{isFile}
 use Rattle.volume.specs.Views.{View, Update, setRecord, setHeader, changed}
 use Rattle.volume.proofs.PlaceLaws.{IsFile, file-of}
@@ -26,7 +26,7 @@ use Rattle.rules.specs.Content.{decidedMap}
 use Rattle.rules.proofs.AllowedLaws.{Others, Running, MayBegin, MayAct, MayOpen, running-undecided, running-foreign}
 use Rattle.rules.proofs.ContentLaws.{decidedHeader, unheld-map, decided-fits}
 use Rattle.rules.proofs.RecoveryLaws.{held-files, held-member, freeing, recovery-is}
-use Rattle.atomicity.proofs.KeepLaws.{Left, Keeps, keeps-self, keep-header, keep-record}
+use Rattle.atomicity.proofs.KeepLaws.{Keeps, keeps-self, keep-header, keep-record}
 
 -- Every prefix of the updates, made on view a, keeps what a₀ has.
 abbrev pub KeptAlong : View → Session → ℕ → View → List Update → Type 0

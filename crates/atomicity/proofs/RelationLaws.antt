@@ -3,7 +3,7 @@
 -- client is active, the others have none pending. Soundness isn't part of it: a call that isn't refused has tested it.
 use mathlib.Core.Path.{_≡_, refl, sym, ap, _∙_}
 use mathlib.Core.Bool.{true, false, true≢false}
-use mathlib.Core.List.{List, [], _∷_, _++_}
+use mathlib.Core.List.{List, []}
 use mathlib.Core.Logic.{_≢_}
 use mathlib.Core.Option.{Option, none, some}
 use Prim.Native.Nat.{ℕ, zero, suc, _-_, _≤_, _<_}
@@ -14,11 +14,11 @@ use lib.ListN.{length, take, length-set}
 use Rattle.interface.specs.declared.Session.{Session}
 use Rattle.interface.specs.Answers.{newSession, done, crashed}
 use Rattle.sector.specs.Lists.{if_then_else_}
-use Rattle.sector.specs.Contents.{Bytes, File, Table, Entry, Record, openRecord}
+use Rattle.sector.specs.Contents.{Bytes, Entry, Record, openRecord}
 use Rattle.sector.proofs.ListLaws.{no-both}
 use Rattle.sector.proofs.CaseLaws.{by-equal, if-test}
 use Rattle.volume.specs.Places.{fileAt}
-use Rattle.volume.specs.Views.{View, Update, setRecord, changed, changedBy}
+use Rattle.volume.specs.Views.{View, Update, changedBy}
 use Rattle.volume.proofs.PlaceLaws.{IsFile}
 use Rattle.volume.proofs.AlongLaws.{along-take, along-end, changed-table, last-record}
 use Rattle.rules.specs.Sessions.{isActive, setActive, noneActive, isOrphaned}
@@ -27,9 +27,8 @@ use Rattle.rules.specs.Plans.{Call, begin, openFile, write, commit, abort, entr
 use Rattle.rules.specs.Content.{decidedContent}
 use Rattle.rules.proofs.SessionLaws.{none-active, set-same, set-other}
 use Rattle.rules.proofs.AllowedLaws.{Active, Others, MayBegin, MayAct, MayOpen, MayWrite, Allowed}
-use Rattle.rules.proofs.ChoiceLaws.{Free}
 use Rattle.rules.proofs.RecoveryLaws.{decidedView}
-use Rattle.atomicity.specs.Model.{Pending, noPending, Model, overlaid, emptied, withPending, withPage, committed, effect}
+use Rattle.atomicity.specs.Model.{noPending, Model, emptied, withPending, withPage, committed, effect}
 use Rattle.atomicity.proofs.KeepLaws.{pendingBy, pendingIn, Keeps, kept-content}
 use Rattle.atomicity.proofs.PlanLaws.{KeptAlong, abort-along, begin-along, open-along}
 use Rattle.atomicity.proofs.WriteLaws.{own-record, new-free, write-along, commit-along}

@@ -1,9 +1,9 @@
 -- The session that a call hands back fits the volume that it leaves: every client that it marks has a transaction running.
 -- A client that was active and isn't the caller has its record and its files, as the call's updates leave them alone; the
 -- caller has, after begin an open record without entries, after write one entry more for a file that it holds.
-use mathlib.Core.Path.{_≡_, refl, sym, ap, _∙_, subst}
+use mathlib.Core.Path.{_≡_, refl, sym, ap, _∙_}
 use mathlib.Core.Bool.{Bool, true, false}
-use mathlib.Core.List.{List, [], _∷_, _++_}
+use mathlib.Core.List.{List, []}
 use mathlib.Core.Logic.{_≢_}
 use mathlib.Core.Option.{Option, none, some}
 use Prim.Native.Nat.{ℕ, _-_, _≤_}
@@ -13,13 +13,13 @@ use lib.Dec.{eqb}
 use lib.ListN.{length, length-set}
 use Rattle.interface.specs.declared.Session.{Session}
 use Rattle.sector.specs.Lists.{if_then_else_, every}
-use Rattle.sector.specs.Contents.{Bytes, Table, Entry, Record, Header, openRecord}
+use Rattle.sector.specs.Contents.{Bytes, Entry, Record, openRecord}
 use Rattle.sector.proofs.ListLaws.{no-both}
 use Rattle.sector.proofs.CaseLaws.{by-equal}
 use Rattle.sector.proofs.SearchLaws.{every-implies, every-end}
-use Rattle.volume.specs.Views.{View, Update, setRecord, changed, changedBy}
+use Rattle.volume.specs.Views.{View, Update, changedBy}
 use Rattle.volume.proofs.AlongLaws.{along-end, changed-table, last-record}
-use Rattle.rules.specs.Sessions.{isActive, setActive, isOrphaned}
+use Rattle.rules.specs.Sessions.{setActive, isOrphaned}
 use Rattle.rules.specs.Recovery.{isDecided, recovery}
 use Rattle.rules.specs.Plans.{Call, begin, openFile, write, commit, abort, entryFor, chosen, beginPlan, openPlan, writePlan, plan, sessionAfter}
 use Rattle.rules.proofs.SessionLaws.{set-same, set-other}

@@ -2,29 +2,26 @@
 -- fits it, no step is refused by 1 or 2.
 -- That the views on the way are lawful, and that the bytes on the way are encodings, are two laws; together they are
 -- soundness. The session handed back fits, so both hold again before the next step.
-use mathlib.Core.Path.{_≡_, refl, ap, _∙_}
+use mathlib.Core.Path.{_≡_, refl}
 use mathlib.Core.Bool.{Bool, true, false, not}
 use mathlib.Core.List.{List, [], _∷_}
 use mathlib.Core.Logic.{_≢_}
-use Prim.Native.Nat.{ℕ, zero, suc, _≤_}
+use Prim.Native.Nat.{ℕ, _≤_}
 use native.Mathlib.Omega.{arith}
 use borrow.Author.Tests.{leb-true}
 use lib.Dec.{leb}
-use lib.ListN.{length, take}
-use lib.Seq.{take-length}
+use lib.ListN.{length}
 use Rattle.interface.specs.declared.Session.{Session}
 use Rattle.interface.specs.Answers.{newSession, ReadAnswer}
 use Rattle.sector.specs.Lists.{first, every}
-use Rattle.sector.specs.Contents.{Table}
 use Rattle.sector.specs.Sectors.{Volume}
 use Rattle.sector.proofs.ListLaws.{and-left, and-right}
 use Rattle.sector.proofs.CaseLaws.{if-test}
-use Rattle.volume.specs.Views.{View, Update, changedBy}
-use Rattle.volume.specs.Lawful.{lawful}
+use Rattle.volume.specs.Views.{Update}
 use Rattle.volume.specs.Volumes.{view}
 use Rattle.volume.specs.Sound.{sound}
-use Rattle.volume.specs.Stores.{Store, stored, allStores}
-use Rattle.volume.specs.Format.{tableFor, newVolume, format}
+use Rattle.volume.specs.Stores.{stored, allStores}
+use Rattle.volume.specs.Format.{tableFor, format}
 use Rattle.volume.proofs.StoreLaws.{sound-shaped, view-stores}
 use Rattle.volume.proofs.LawfulLaws.{Lawful}
 use Rattle.volume.proofs.AlongLaws.{Along, along-placed}
@@ -36,7 +33,7 @@ use Rattle.rules.specs.Refusals.{tests, readTests}
 use Rattle.rules.specs.Calls.{After, call, read}
 use Rattle.rules.proofs.SessionLaws.{new-fits}
 use Rattle.rules.proofs.CallLaws.{call-case, read-case}
-use Rattle.rules.proofs.AllowedLaws.{Allowed, running-fits, allowed}
+use Rattle.rules.proofs.AllowedLaws.{running-fits, allowed}
 use Rattle.atomicity.specs.Runs.{Step, calls, reads, Run, started, given, stepped}
 use Rattle.atomicity.specs.NotHollow.{StaysSound, refusalOf, readRefusalOf, Accepted, AlwaysAccepted}
 use Rattle.atomicity.proofs.WriteLaws.{plan-lawful}

@@ -6,13 +6,13 @@ use mathlib.Core.Path.{_≡_, refl, sym, ap, _∙_}
 use mathlib.Core.Bool.{Bool, true, false}
 use mathlib.Core.List.{List, [], _∷_}
 use mathlib.Core.Option.{Option, none, some}
-use Prim.Native.Nat.{ℕ, zero, suc, _+_, _<_}
+use Prim.Native.Nat.{ℕ, suc, _+_, _<_}
 use native.Mathlib.Omega.{arith}
 use lib.ListN.{length, getD, replicate}
 use Rattle.interface.specs.declared.Session.{Session}
 use Rattle.interface.specs.Answers.{newSession, refused}
 use Rattle.sector.specs.Lists.{if_then_else_, first}
-use Rattle.sector.specs.Contents.{Bytes, File, Table, Entry, Header}
+use Rattle.sector.specs.Contents.{Table, Entry, Header}
 use Rattle.sector.specs.Sectors.{Volume, sector}
 use Rattle.sector.proofs.ListLaws.{no-both}
 use Rattle.sector.proofs.CaseLaws.{by-test}
@@ -22,7 +22,6 @@ use Rattle.volume.specs.Views.{View, Update}
 use Rattle.volume.specs.Volumes.{view}
 use Rattle.volume.specs.Sound.{sound}
 use Rattle.volume.specs.Format.{tableFor, newVolume, format}
-use Rattle.volume.specs.Stores.{stored, allStores}
 use Rattle.volume.proofs.PlaceLaws.{IsFile}
 use Rattle.volume.proofs.StoreLaws.{Shaped, sound-shaped, AllPlaced, view-stores, view-prefix}
 use Rattle.volume.proofs.AccessLaws.{slot-is}
@@ -30,20 +29,20 @@ use Rattle.volume.proofs.LawfulLaws.{TableFacts, EntryFacts, file-facts, entry-
 use Rattle.volume.proofs.FormatLaws.{newHeader, new-table, new-header, new-slot, FormatFacts, format-done}
 use Rattle.volume.proofs.AlongLaws.{along-placed}
 use Rattle.rules.specs.Sessions.{noneActive}
-use Rattle.rules.specs.Plans.{Call, begin, openFile, write, commit, abort, entryFor, slotFor, plan, sessionAfter}
+use Rattle.rules.specs.Plans.{Call, begin, openFile, write, commit, abort, entryFor, slotFor, plan}
 use Rattle.rules.specs.Refusals.{tests, readTests}
 use Rattle.rules.specs.Calls.{After, call, read}
 use Rattle.rules.specs.Content.{decidedMap, decidedContent}
 use Rattle.rules.proofs.CallLaws.{call-case, read-case}
 use Rattle.rules.proofs.SessionLaws.{none-active}
-use Rattle.rules.proofs.AllowedLaws.{Active, MayAct, MayRead, Allowed, readable, allowed, allowed-sound}
+use Rattle.rules.proofs.AllowedLaws.{Active, MayRead, readable, allowed, allowed-sound}
 use Rattle.rules.proofs.ContentLaws.{unheld-map, decided-slot}
 use Rattle.atomicity.specs.Model.{noPending, Model, newModel, orElse, shown, emptied, effect, settled, modelCall}
 use Rattle.atomicity.specs.Runs.{Step, calls, reads, Run, started, given, stepped}
 use Rattle.atomicity.specs.AllOrNone.{ContentAgrees, ReadAgrees, Agrees, AllOrNone}
 use Rattle.atomicity.proofs.KeepLaws.{bytesFor, pendingIn}
 use Rattle.atomicity.proofs.WriteLaws.{own-record, own-map, plan-lawful}
-use Rattle.atomicity.proofs.RelationLaws.{Matches, Faithful, faithful, faithful-matches, new-matches, Outcome, outcome}
+use Rattle.atomicity.proofs.RelationLaws.{Matches, Faithful, faithful, faithful-matches, new-matches, outcome}
 
 -- Volume and session are related to the model.
 abbrev pub Related : Run → Type 0

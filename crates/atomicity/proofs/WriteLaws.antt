@@ -3,18 +3,18 @@
 -- The slot that a write stores in isn't in the file's map, which is its decided map, and the other active clients have no
 -- entry for a file that this one holds. The new entry suits the headers that name the client, since its slot was free.
 use mathlib.Core.Path.{_≡_, refl, sym, _∙_}
-use mathlib.Core.Bool.{Bool, true, false, not, _&&_, _||_}
+use mathlib.Core.Bool.{true, false, not, _&&_}
 use mathlib.Core.List.{List, [], _∷_, _++_}
 use mathlib.Core.Logic.{_≢_}
 use mathlib.Core.Option.{Option, none, some}
-use Prim.Native.Nat.{ℕ, _≤_, _<_}
+use Prim.Native.Nat.{ℕ, _<_}
 use native.Mathlib.Omega.{arith}
 use borrow.Author.Tests.{eqb-false, eq-eqb, ne-eqb, le-leb, lt-ltb, not-true}
 use lib.Dec.{eqb}
 use lib.ListN.{length, length-append}
 use Rattle.interface.specs.declared.Session.{Session}
-use Rattle.sector.specs.Lists.{every, member}
-use Rattle.sector.specs.Contents.{Bytes, File, Table, Entry, Record, Header, decidedRecord}
+use Rattle.sector.specs.Lists.{member}
+use Rattle.sector.specs.Contents.{Bytes, Entry, decidedRecord}
 use Rattle.sector.specs.Entries.{forFile, forPage, givesSlot}
 use Rattle.sector.proofs.ListLaws.{all-nil, all-cons, find-has}
 use Rattle.sector.proofs.CaseLaws.{by-equal, eqb-sym}
@@ -24,12 +24,12 @@ use Rattle.volume.specs.Views.{View, Update, setRecord, setSlot, changed}
 use Rattle.volume.specs.Lawful.{entryFits, apart}
 use Rattle.volume.proofs.PlaceLaws.{IsFile}
 use Rattle.volume.proofs.ViewLaws.{Placed}
-use Rattle.volume.proofs.LawfulLaws.{RecordFacts, EntryFacts, Lawful, entry-facts, lawful-record, placed-record}
+use Rattle.volume.proofs.LawfulLaws.{RecordFacts, Lawful, entry-facts, lawful-record, placed-record}
 use Rattle.volume.proofs.AlongLaws.{Along, last, step, along-map}
 use Rattle.rules.specs.Recovery.{isDecided, recovery}
 use Rattle.rules.specs.Plans.{Call, begin, openFile, write, commit, abort, entryFor, chosen, appended, writePlan, plan}
 use Rattle.rules.specs.Content.{decidedMap}
-use Rattle.rules.proofs.AllowedLaws.{Others, Running, MayAct, MayRead, MayWrite, Allowed, running-undecided, running-foreign}
+use Rattle.rules.proofs.AllowedLaws.{MayAct, MayWrite, Allowed, running-undecided, running-foreign}
 use Rattle.rules.proofs.ChoiceLaws.{Free, chosen-free}
 use Rattle.rules.proofs.ContentLaws.{held-map}
 use Rattle.rules.proofs.RecoveryLaws.{decidedView, recovery-decided}

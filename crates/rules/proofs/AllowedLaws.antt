@@ -3,18 +3,17 @@ use mathlib.Core.Path.{_≡_, refl}
 use mathlib.Core.Bool.{Bool, true, false, not, _&&_, _||_}
 use mathlib.Core.List.{List, [], _∷_}
 use mathlib.Core.Logic.{_≢_}
-use Prim.Native.Nat.{ℕ, zero, suc, _≤_, _<_}
-use native.Mathlib.Nat.{not-suc-le-zero}
+use Prim.Native.Nat.{ℕ, _≤_, _<_}
 use native.Mathlib.Omega.{arith}
 use borrow.Author.Tests.{eqb-true, eq-eqb, ne-eqb, leb-true, le-leb, ltb-true, not-false}
 use lib.Dec.{eqb, leb}
-use lib.ListN.{length, getD}
+use lib.ListN.{length}
 use Rattle.interface.specs.declared.Session.{Session}
-use Rattle.sector.specs.Lists.{if_then_else_, first, every}
-use Rattle.sector.specs.Contents.{Bytes, File, Table, Entry, Record, Header}
+use Rattle.sector.specs.Lists.{first, every}
+use Rattle.sector.specs.Contents.{Bytes, Entry}
 use Rattle.sector.specs.Entries.{forFile}
 use Rattle.sector.specs.Sectors.{Volume}
-use Rattle.sector.proofs.ListLaws.{and-left, and-right, or-right, all-nil, all-cons, all-at, every-from, every-all}
+use Rattle.sector.proofs.ListLaws.{or-right, all-nil, all-cons, all-at, every-from, every-all}
 use Rattle.sector.proofs.CaseLaws.{by-test, by-equal}
 use Rattle.sector.proofs.SearchLaws.{or-true, every-implies, first-none}
 use Rattle.volume.specs.Places.{isClient, isFile, fileAt}

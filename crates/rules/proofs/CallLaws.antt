@@ -1,16 +1,14 @@
 -- How a call or a read can end: a claim about what it answers and leaves, from the claim about each end.
 use mathlib.Core.Path.{_≡_, refl}
-use mathlib.Core.Bool.{true, false}
 use Prim.Native.Nat.{ℕ, zero, suc}
 use lib.Dec.{leb}
 use lib.ListN.{length, take}
 use Rattle.interface.specs.declared.Session.{Session}
-use Rattle.interface.specs.Answers.{newSession, Answer, done, crashed, refused, ReadAnswer, found, readRefused}
+use Rattle.interface.specs.Answers.{newSession, done, crashed, refused, ReadAnswer, found, readRefused}
 use Rattle.sector.specs.Lists.{first}
 use Rattle.sector.specs.Sectors.{Volume}
 use Rattle.sector.proofs.CaseLaws.{if-test}
 use Rattle.volume.specs.Places.{slotPlace, sectorOf}
-use Rattle.volume.specs.Views.{View}
 use Rattle.volume.specs.Volumes.{view}
 use Rattle.volume.specs.Sound.{sound}
 use Rattle.volume.specs.Stores.{stored, allStores}

@@ -5,14 +5,14 @@ use mathlib.Core.Bool.{Bool, true, false, not, _&&_, true≢false}
 use mathlib.Core.List.{List, [], _∷_}
 use mathlib.Core.Logic.{_≢_}
 use mathlib.Core.Option.{Option, none, some}
-use Prim.Native.Nat.{ℕ, _≤_, _<_}
+use Prim.Native.Nat.{ℕ, _<_}
 use native.Mathlib.Omega.{arith}
 use borrow.Author.Tests.{eqb-true, eqb-false, lt-ltb, ltb-true, not-true}
 use lib.Dec.{eqb, ltb}
 use lib.ListN.{length, getD, set, length-set}
 use lib.Seq.{getD-set-same, getD-set-other}
 use Rattle.sector.specs.Lists.{if_then_else_, every, any, find, distinct, member}
-use Rattle.sector.specs.Contents.{File, Table, Entry, Record, Header}
+use Rattle.sector.specs.Contents.{Table, Entry, Header}
 use Rattle.sector.specs.Entries.{forFile, forPage, givesSlot, redone}
 use Rattle.sector.proofs.ListLaws.{and-left, and-right, all-at, every-at}
 use Rattle.sector.proofs.CaseLaws.{if-test}
@@ -22,7 +22,7 @@ use Rattle.volume.specs.Views.{View}
 use Rattle.volume.specs.Lawful.{entryFits, apart}
 use Rattle.volume.proofs.PlaceLaws.{IsFile}
 use Rattle.volume.proofs.LawfulLaws.{RecordFacts, MapFacts, HolderFacts, Lawful}
-use Rattle.rules.specs.Recovery.{isDecided, mapAfter}
+use Rattle.rules.specs.Recovery.{isDecided}
 use Rattle.rules.specs.Content.{decidedMap}
 
 -- ------------------------------------------------------------------ one entry

@@ -1,7 +1,7 @@
 -- Recovery of client k stores each held file's decided map, held by nobody, then the idle record. Commit's recovery is the
 -- one of the view in which record k is decided already.
 use mathlib.Core.Path.{_≡_, refl, ap}
-use mathlib.Core.Bool.{Bool, true, false, _&&_}
+use mathlib.Core.Bool.{Bool, true, _&&_}
 use mathlib.Core.List.{List, [], _∷_, _++_, map}
 use Prim.Native.Nat.{ℕ, _≤_}
 use native.Mathlib.Omega.{arith}
@@ -9,7 +9,7 @@ use borrow.Author.Tests.{eqb-true, eq-eqb, ne-eqb}
 use lib.Dec.{eqb}
 use lib.ListN.{length}
 use Rattle.sector.specs.Lists.{every, filter, member}
-use Rattle.sector.specs.Contents.{Table, Record, Header, idleRecord, decidedRecord}
+use Rattle.sector.specs.Contents.{idleRecord, decidedRecord}
 use Rattle.sector.proofs.ListLaws.{le-between, no-both, every-all, member-from, map-every, every-filter, every-sub, member-filter}
 use Rattle.sector.proofs.CaseLaws.{by-test}
 use Rattle.sector.proofs.SearchLaws.{every-both}

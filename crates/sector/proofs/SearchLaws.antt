@@ -1,7 +1,7 @@
 -- Laws of searching a list (any, find, member, distinct), and of a list with one element set or one more at its end.
 -- Each by induction on the list; `go` has the values of the first element's test.
 use mathlib.Core.Path.{_≡_, refl, sym, ap, _∙_}
-use mathlib.Core.Bool.{Bool, true, false, not, _&&_, _||_, true≢false}
+use mathlib.Core.Bool.{Bool, true, false, not, _&&_, _||_}
 use mathlib.Core.List.{List, [], _∷_, _++_}
 use mathlib.Core.Logic.{_≢_}
 use mathlib.Core.Option.{Option, none, some}

@@ -1,7 +1,7 @@
 -- Stores of updates leave every control sector the encoding of what is read from it.
 -- In the update's place stands an encoding from then on, in every other place what stood there. No view is looked at.
 use mathlib.Core.Path.{_≡_, refl, sym, ap, _∙_, subst}
-use mathlib.Core.Bool.{Bool, true, false}
+use mathlib.Core.Bool.{Bool, true}
 use mathlib.Core.List.{List, [], _∷_}
 use Prim.Native.Nat.{ℕ}
 use native.Mathlib.Omega.{arith}

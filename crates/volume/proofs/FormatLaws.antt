@@ -2,35 +2,33 @@
 -- a sound volume. The array is a sequence of parts of known lengths, so what stands at a distance is found by passing over
 -- the parts before it.
 use mathlib.Core.Path.{_≡_, refl, sym, ap, _∙_}
-use mathlib.Core.Bool.{true, false, not, _||_}
+use mathlib.Core.Bool.{true, not}
 use mathlib.Core.List.{List, [], _∷_, _++_, append-assoc}
-use Prim.Native.Nat.{ℕ, zero, suc, _+_, _*_, _-_, _/_, _%_, _≤_, _<_}
+use Prim.Native.Nat.{ℕ, zero, suc, _+_, _*_, _-_, _%_, _≤_, _<_}
 use native.Mathlib.Nat.{not-suc-le-zero, le-of-suc-le-suc, sub-zero, suc-sub-suc, zero-sub}
 use native.Mathlib.Omega.{arith}
-use borrow.Author.Tests.{eq-eqb, leb-true, lt-ltb, not-false}
+use borrow.Author.Tests.{leb-true, lt-ltb, not-false}
 use lib.Dec.{eqb}
 use lib.ListN.{length, getD, take, drop, replicate, length-append, length-replicate}
 use lib.Seq.{take-at, drop-at, drop-drop, drop-append-add}
-use Rattle.interface.specs.Answers.{FormatAnswer, formatDone}
+use Rattle.interface.specs.Answers.{formatDone}
 use Rattle.sector.specs.Lists.{first, every, from}
-use Rattle.sector.specs.Contents.{Bytes, File, Table, Record, Header, idleRecord}
+use Rattle.sector.specs.Contents.{Bytes, File, Table, Header, idleRecord}
 use Rattle.sector.specs.Sectors.{Volume, sector}
 use Rattle.sector.specs.Encoding.{encodeTable, encodeRecord, encodeHeader}
-use Rattle.sector.specs.Decoding.{decodeTable, decodeRecord, decodeHeader}
-use Rattle.sector.proofs.ListLaws.{and-left, and-right, or-none, between-true, all-at, every-at, every-all, same-refl}
-use Rattle.sector.proofs.SearchLaws.{first-none, from-length, from-at, from-distinct}
+use Rattle.sector.specs.Decoding.{decodeTable, decodeRecord}
+use Rattle.sector.proofs.ListLaws.{and-left, and-right, or-none, between-true, all-at, every-all, same-refl}
+use Rattle.sector.proofs.SearchLaws.{first-none, from-length, from-distinct}
 use Rattle.sector.proofs.SectorLaws.{front}
 use Rattle.sector.proofs.CodecLaws.{table-back, table-length, record-back, record-length, header-back, header-length}
 use Rattle.volume.specs.Places.{noFile, fileAt, sectorAfter, headerSector, endSector, tablePlace, recordPlace, headerPlace, slotPlace}
-use Rattle.volume.specs.Views.{View}
-use Rattle.volume.specs.Lawful.{fileFits, lawful}
-use Rattle.volume.specs.Volumes.{tableOf, bytesAt, view}
+use Rattle.volume.specs.Lawful.{fileFits}
+use Rattle.volume.specs.Volumes.{bytesAt, view}
 use Rattle.volume.specs.Sound.{isRecordEncoding, isHeaderEncoding, sound}
 use Rattle.volume.specs.Format.{filesOf, tableFor, formatTests, repeated, newFiles, newVolume, formatBy, format}
 use Rattle.volume.proofs.PlaceLaws.{IsFile}
-use Rattle.volume.proofs.StoreLaws.{Shaped}
 use Rattle.volume.proofs.AccessLaws.{table-is, record-is, header-is, slot-is}
-use Rattle.volume.proofs.LawfulLaws.{TableFacts, FileFacts, MapFacts, HeaderFacts, Lawful, file-facts, idle-facts, facts-lawful}
+use Rattle.volume.proofs.LawfulLaws.{TableFacts, FileFacts, HeaderFacts, Lawful, file-facts, idle-facts, facts-lawful}
 use Rattle.volume.proofs.CanonicalLaws.{Encoded, record-encoding, header-encoding}
 use Rattle.volume.proofs.SoundLaws.{sound-by}
 

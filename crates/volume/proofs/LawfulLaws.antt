@@ -1,8 +1,8 @@
 -- What a lawful view has, as records of facts; and which updates leave a view lawful.
 -- The facts are the tests of `lawful` taken apart, and put together they make it up again. A header is looked at with the
 -- record of the client that it names, so a new record has to suit the headers that name its client; slots aren't looked at.
-use mathlib.Core.Path.{_≡_, refl, sym, subst}
-use mathlib.Core.Bool.{Bool, true, false, not, _&&_, _||_}
+use mathlib.Core.Path.{_≡_, refl}
+use mathlib.Core.Bool.{true, false, not, _||_}
 use mathlib.Core.List.{List}
 use mathlib.Core.Logic.{_≢_}
 use mathlib.Core.Option.{some}

@@ -14,7 +14,7 @@ use Rattle.volume.specs.Lawful.{lawful}
 use Rattle.volume.specs.Volumes.{tableOf, bytesAt, view}
 use Rattle.volume.specs.Sound.{canonical, sound}
 use Rattle.volume.specs.Stores.{stored, allStores}
-use Rattle.volume.proofs.StoreLaws.{AllPlaced, sound-shaped, stores-take, view-stores}
+use Rattle.volume.proofs.StoreLaws.{sound-shaped, stores-take, view-stores}
 use Rattle.volume.proofs.LawfulLaws.{Lawful, facts-lawful}
 use Rattle.volume.proofs.AlongLaws.{Along, along-prefix, along-end, along-placed, changed-table}
 use Rattle.volume.proofs.CanonicalLaws.{encoded-facts, facts-encoded, Canonical, canonical-stores}
