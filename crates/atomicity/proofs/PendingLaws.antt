@@ -43,12 +43,15 @@ module _ (t : Table) (a : View) (r : Record) (facts : RecordFacts t r) (f p : �
     where
       after : Pending
       after = pendingBy (changed a (setSlot f (e .slot) d) .slots) (r .entries)
+
       x : EntryFacts t f p e
       x = entry-facts t r facts f p e found
+
       same : (g q : ℕ) → (eqb g f && eqb q p) ≡ true → some d ≡ after g q
       same g q h =
           let w : find (forPage g q) (r .entries) ≡ some e = rw (here g q h .0, here g q h .1) found in
           rw (w, eq-eqb _ _ (x .file), eq-eqb (e .slot) (e .slot) refl)
+
       clash : (g q : ℕ) (y : Entry) → (eqb g f && eqb q p) ≡ false → find (forPage g q) (r .entries) ≡ some y → givesSlot f (e .slot) y ≡ true → ⊥
       clash g q y n w u =
           let z : EntryFacts t g q y = entry-facts t r facts g q y w in
@@ -59,6 +62,7 @@ module _ (t : Table) (a : View) (r : Record) (facts : RecordFacts t r) (f p : �
           (and-both _ _ (eq-eqb _ _ (x .file ∙ sym file)) (eq-eqb _ _ (sym slot))) (facts .slots) in
           let page : e .page ≡ q = rw (← k) at (z .page) in
           no-both _ (and-both (eqb g f) _ (eq-eqb g f (sym (z .file) ∙ file)) (eq-eqb q p (sym page ∙ x .page))) n
+
       other : (g q : ℕ) → (eqb g f && eqb q p) ≡ false → (o : Option Entry) → find (forPage g q) (r .entries) ≡ o
           → bytesFor (a .slots) o ≡ bytesFor (changed a (setSlot f (e .slot) d) .slots) o
       other g q n none w = refl
@@ -73,11 +77,14 @@ module _ (t : Table) (a : View) (r : Record) (facts : RecordFacts t r) (f p : �
     where
       slots : ℕ → ℕ → Bytes
       slots = changed a (setSlot f n d) .slots
+
       entry : Entry
       entry = record { file = f; page = p; slot = n }
+
       found : (g q : ℕ) → find (forPage g q) (r .entries ++ (record { file = f; page = p; slot = n } ∷ []))
           ≡ orFound (find (forPage g q) (r .entries)) (if eqb g f && eqb q p then some entry else none)
       found g q = find-end (forPage g q) (r .entries) entry ∙ rw (eqb-sym f g, eqb-sym p q)
+
       go : (g q : ℕ) (b : Bool) → (eqb g f && eqb q p) ≡ b → (o : Option Entry) → find (forPage g q) (r .entries) ≡ o
           → (if b then some d else bytesFor (a .slots) o) ≡ bytesFor slots (orFound o (if b then some entry else none))
       go g q true h (some y) w = none-some y (sym new ∙ rw (here g q h .0, here g q h .1) at w)
@@ -101,17 +108,21 @@ module _ (a : View) (s : Session) (k : ℕ) (w : MayAct a s k) where
     where
       facts : RecordFacts (a .table) (a .records k)
       facts = own-record a s k w
+
       at : List ℕ → Bytes
       at m = a .slots f (getD m p 0)
+
       page : a .headers f .holder ≡ k → (o : Option Entry) → find (forPage f p) (a .records k .entries) ≡ o
           → a .slots f (slotOr o (getD (a .headers f .map) p 0)) ≡ orElse (bytesFor (a .slots) o) (decidedContent a f p)
       page e none x = ap at (sym (own-map a s k w f e))
       page e (some y) x = rw (entry-facts (a .table) (a .records k) facts f p y x .file)
+
       mine : a .headers f .holder ≡ k → decidedContent (decidedView a k) f p ≡ orElse (pendingIn a k f p) (decidedContent a f p)
       mine e =
           ap at (decided-mine f e)
           ∙ ap (a .slots f) (redone-finds (a .table) f p _ _ (facts .fit) (facts .pages) (w .ready .laws .headers f i .map .size))
           ∙ page e (find (forPage f p) (a .records k .entries)) refl
+
       other : a .headers f .holder ≢ k → decidedContent (decidedView a k) f p ≡ orElse (pendingIn a k f p) (decidedContent a f p)
       other n = rw (find-none (forPage f p) (a .records k .entries) (running-foreign a k f (w .running) n (λ e. eqb (e .page) p)))
           (ap at (decided-other f n))

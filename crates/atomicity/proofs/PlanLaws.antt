@@ -50,6 +50,7 @@ module _ (a₀ : View) (s : Session) (k j : ℕ) (laws : Lawful (a₀ .table) a�
     where
       unnamed : Unnamed (a₀ .table) j a
       unnamed f i e = false≢true (left f i e)
+
       idled : Keeps a₀ s k (changed a (setRecord j idleRecord))
       idled = keep-record a₀ s k a kept j idleRecord (idle-facts (a₀ .table)) (λ f i e. absurd (unnamed f i e)) ne
   freeing-along (f ∷ fs) a held left kept =
@@ -59,12 +60,16 @@ module _ (a₀ : View) (s : Session) (k j : ℕ) (laws : Lawful (a₀ .table) a�
     where
       this : (isFile (a₀ .table) f && eqb (a₀ .headers f .holder) j) ≡ true
       this = and-left (isFile (a₀ .table) f && eqb (a₀ .headers f .holder) j) _ held
+
       file : IsFile (a₀ .table) f
       file = file-of (a₀ .table) f (and-left (isFile (a₀ .table) f) _ this)
+
       holder : a₀ .headers f .holder ≡ j
       holder = eqb-true _ _ (and-right (isFile (a₀ .table) f) _ this)
+
       facts : HeaderFacts (a₀ .table) (a .records) f (decidedHeader a₀ f 0)
       facts = record { map = decided-fits a₀ laws f file; holder = λ n. absurd (n refl) }
+
       still : (g : ℕ) → IsFile (a₀ .table) g → changed a (setHeader f (decidedHeader a₀ f 0)) .headers g .holder ≡ j → member g fs ≡ true
       still g i = if-equal (λ (h : Header). h .holder ≡ j → member g fs ≡ true) g f (decidedHeader a₀ f 0) (a .headers g)
           (λ e q. absurd (omega arith)) (λ n q. or-right (eqb g f) (member g fs) (left g i q) (ne-eqb g f n))
@@ -96,10 +101,12 @@ module _ (a : View) (s : Session) (k : ℕ) where
     where
       laws : Lawful (a .table) a
       laws = w .ready .laws
+
       opened : (b : View) → Keeps a s k b → Unnamed (a .table) k b → KeptAlong a s k b (setRecord k openRecord ∷ [])
       opened b kept unnamed =
           step kept (placed-record (a .table) a laws k openRecord (w .low) (w .high) (open-facts (a .table)))
           (last (keep-record a s k b kept k openRecord (open-facts (a .table)) (λ f i e. absurd (unnamed f i e)) (λ i o. o .other)))
+
       idle-unnamed : isOrphaned a s k ≡ false → Unnamed (a .table) k a
       idle-unnamed e f i q =
           let idle : eqb (a .records k .state) 0 ≡ true = not-false _ (rw (w .off) at e) in
@@ -122,12 +129,16 @@ module _ (a : View) (s : Session) (k : ℕ) where
       where
         laws : Lawful (a .table) a
         laws = w .act .ready .laws
+
         run : Running a k
         run = w .act .running
+
         own : b .records k ≡ a .records k
         own = kept .others k (record { active = w .act .active; other = omega (arith, w .act .active .low) }) .entries
+
         undecided : (not (eqb k 0) && isDecided b k) ≡ false
         undecided = rw (own, ne-eqb k 0 (omega (arith, w .act .active .low))) (running-undecided a k run)
+
         facts : HeaderFacts (a .table) (b .records) f (decidedHeader a f k)
         facts = record {
           map = decided-fits a laws f (w .file);
@@ -146,11 +157,14 @@ module _ (a : View) (s : Session) (k : ℕ) where
     where
       laws : Lawful (a .table) a
       laws = w .act .ready .laws
+
       self : Keeps a s 0 a
       self = keeps-self a s 0 laws
+
       unowned : a .headers f .holder ≢ k → a .headers f .holder ≡ 0 → KeptAlong a s 0 a (setHeader f (record { holder = k; map = a .headers f .map }) ∷ [])
       unowned n e =
           rw (sym (unheld-map a f e)) (takes f w n a self)
+
       orphaned : a .headers f .holder ≢ k → a .headers f .holder ≢ 0
           → KeptAlong a s 0 a (recovery (isDecided a (a .headers f .holder)) a (a .headers f .holder)
           ++ (setHeader f (record { holder = k; map = mapAfter (isDecided a (a .headers f .holder)) a (a .headers f .holder) f }) ∷ []))

@@ -124,10 +124,13 @@ module _ (a : View) (s : Session) (m : Model) (h : Faithful a s m) where
     where
       end : View
       end = changedBy a (beginPlan a s k)
+
       along : KeptAlong a s k a (beginPlan a s k)
       along = begin-along a s k w
+
       opened : end .records k ≡ openRecord
       opened = last-record (if isOrphaned a s k then recovery (isDecided a k) a k else []) a k openRecord
+
       only : OnlyOwn k a end s (setActive s k true) m m
       only = record {
         others = λ j o. along-end along .others j o .pending;
@@ -149,6 +152,7 @@ module _ (a : View) (s : Session) (m : Model) (h : Faithful a s m) where
     where
       along : KeptAlong a s 0 a (openPlan a k f)
       along = open-along a s k f w
+
       only : OnlyOwn 0 a (changedBy a (openPlan a k f)) s s m m
       only = record {
         others = λ j o. along-end along .others j o .pending;
@@ -198,11 +202,14 @@ module _ (a : View) (s : Session) (m : Model) (h : Faithful a s m) where
       where
         b : View
         b = decidedView a k
+
         along : KeptAlong (decidedView a k) s k (decidedView a k) (recovery true a k)
         along = commit-along a s k w
+
         decided : PagesMatch (decidedView a k) (committed m k)
         decided f p i lt = commit-content a s k w f p i
             ∙ rw (h .pages f p i lt, h .tracked k (w .active .low) (w .active .high) .active (w .active .on))
+
         cuts : (n : ℕ) → PagesMatch (changedBy a (take n (plan a s (commit k)))) (effect m (commit k) (crashed n))
         cuts zero = h .pages
         cuts (suc n) = rw (le-leb 1 (suc n) (omega arith)) (prefix-pages (committed m k) decided along n)
@@ -217,12 +224,15 @@ module _ (a : View) (s : Session) (m : Model) (h : Faithful a s m) where
     where
       xs : List Update
       xs = writePlan a k f p d (entryFor a k f p)
+
       along : KeptAlong a s k a (writePlan a k f p d (entryFor a k f p))
       along = write-along a s k f p d w (entryFor a k f p) refl
+
       written : (o : Option Entry) → entryFor a k f p ≡ o → withPage f p d (pendingIn a k) ≡ pendingIn (changedBy a (writePlan a k f p d o)) k
       written (some e) found = page-again (a .table) a (a .records k) (own-record a s k (w .place .act)) f p d e found
       written none new = rw (eq-eqb k k refl)
           (page-first (a .table) a (a .records k) (own-record a s k (w .place .act)) f p d (chosen a k f p) new (new-free a s k f p d w new .ungiven))
+
       only : OnlyOwn k a (changedBy a xs) s s m (withPending m k (withPage f p d (m .pending k)))
       only = record {
         others = λ j o. along-end along .others j o .pending;

@@ -57,8 +57,10 @@ module _ (a : View) (s : Session) (marks : length (s .active) ≡ 4) where
     where
       end : View
       end = changedBy a (beginPlan a s k)
+
       opened : changedBy a (beginPlan a s k) .records k ≡ openRecord
       opened = last-record (if isOrphaned a s k then recovery (isDecided a k) a k else []) a k openRecord
+
       own : Running (changedBy a (beginPlan a s k)) k
       own = record {
         client = rw (changed-table (beginPlan a s k) a) (w .high);
@@ -79,6 +81,7 @@ module _ (a : View) (s : Session) (marks : length (s .active) ≡ 4) where
     where
       mine : Running a k
       mine = w .place .act .running
+
       own : Running (changedBy a (writePlan a k f p d none)) k
       own = record {
         client = mine .client;
@@ -86,6 +89,7 @@ module _ (a : View) (s : Session) (marks : length (s .active) ≡ 4) where
         mine = rw (eq-eqb k k refl) (every-end (λ e. eqb (a .headers (e .file) .holder) k) (a .records k .entries)
             (record { file = f; page = p; slot = chosen a k f p }) (mine .mine) (eq-eqb _ _ (w .place .holder)));
       }
+
       other : j ≢ k → Running (changedBy a (writePlan a k f p d none)) j
       other n =
           let r : Running a j = w .place .act .ready .runs j x in

@@ -69,6 +69,7 @@ call-steady v s h c budget = call-case (λ (x : After). Steady (x .volume) (x .s
   where
     updates : List Update
     updates = plan (view v) s c
+
     ended : first (tests (sound v) (view v) s c) ≡ 0 → Steady (stored v (allStores (view v .table) (plan (view v) s c))) (sessionAfter s c)
     ended e =
         let along = lawful-along v s c e in

@@ -66,12 +66,16 @@ call-matches v s m h c budget = call-case (λ (x : After). Matches (view (x .vol
   where
     m′ : Model
     m′ = if noneActive s then emptied m else m
+
     clear : Faithful (view v) s (if noneActive s then emptied m else m)
     clear = faithful (view v) s m h
+
     updates : List Update
     updates = plan (view v) s c
+
     shaped : first (tests (sound v) (view v) s c) ≡ 0 → Shaped (view v .table) v
     shaped e = sound-shaped v (allowed-sound v s c e)
+
     placed : first (tests (sound v) (view v) s c) ≡ 0 → AllPlaced (view v .table) (plan (view v) s c)
     placed e = along-placed (plan-lawful (view v) s c (allowed v s c e))
 
@@ -80,9 +84,10 @@ call-matches v s m h c budget = call-case (λ (x : After). Matches (view (x .vol
 slot-shown : (a : View) (s : Session) (m : Model) → Matches a s m → (k f p : ℕ) → MayRead a s k f p → (o : Option Entry) → entryFor a k f p ≡ o
     → (a .slots f (slotFor a f p o) ≡ orElse (bytesFor (a .slots) o) (m .pages f p)) × (slotFor a f p o < fileAt (a .table) f .slots)
 slot-shown a s m h k f p w none e =
-    let q : decidedMap a f ≡ a .headers f .map = own-map a s k (w .act) f (w .holder) in
-    (sym (ap (λ (l : List ℕ). a .slots f (getD l p 0)) q) ∙ h .pages f p (w .file) (w .page),
-    rw q at (decided-slot a (w .act .ready .laws) f p (w .file) (w .page)))
+    let q : decidedMap a f ≡ a .headers f .map = own-map a s k (w .act) f (w .holder) in (
+      sym (ap (λ (l : List ℕ). a .slots f (getD l p 0)) q) ∙ h .pages f p (w .file) (w .page),
+      rw q at (decided-slot a (w .act .ready .laws) f p (w .file) (w .page)),
+    )
 slot-shown a s m h k f p w (some e) found =
     let x : EntryFacts (a .table) f p e = entry-facts (a .table) (a .records k) (own-record a s k (w .act)) f p e found in
     (rw (x .file), x .slot)
@@ -117,9 +122,11 @@ pub agrees : (r : Run) (steps : List Step) → Related r → Agrees r steps
 unfolding stepped
 agrees r [] h = content-agrees r h
 agrees r (calls crash c budget ∷ xs) h =
-    let g : Matches (view (r .volume)) (given crash (r .session)) (r .model) = given-matches _ _ _ crash h in
-    (content-agrees r h, tt,
-    agrees (stepped r (calls crash c budget)) xs (call-matches (r .volume) (given crash (r .session)) (r .model) g c budget))
+    let g : Matches (view (r .volume)) (given crash (r .session)) (r .model) = given-matches _ _ _ crash h in (
+      content-agrees r h,
+      tt,
+      agrees (stepped r (calls crash c budget)) xs (call-matches (r .volume) (given crash (r .session)) (r .model) g c budget),
+    )
 agrees r (reads crash k f p ∷ xs) h =
     let g : Matches (view (r .volume)) (given crash (r .session)) (r .model) = given-matches _ _ _ crash h in
     (content-agrees r h, read-matches (r .volume) (given crash (r .session)) (r .model) g k f p, agrees r xs h)
@@ -141,6 +148,7 @@ new-content t facts f p i lt =
   where
     a : View
     a = view (newVolume t)
+
     header : view (newVolume t) .headers f ≡ newHeader (fileAt t f)
     header = new-header t facts f i
 

@@ -95,6 +95,7 @@ module _ (a : View) (s : Session) (k f p : ℕ) (d : Bytes) (w : MayWrite a s k 
       where
         facts : RecordFacts (a .table) (a .records k)
         facts = own-record a s k act
+
         fits : entryFits (a .table) (entryIn r) ≡ true
         fits = all-cons _ (le-leb _ _ (w .place .file .low)) (all-cons _ (le-leb _ _ (w .place .file .high))
             (all-cons _ (lt-ltb _ _ (w .place .page)) (all-cons _ (lt-ltb _ _ (free .below)) all-nil)))

@@ -72,6 +72,7 @@ ready a s l fits = record { laws = lawful-facts a l; runs = λ j w. running j (f
     fit : (j : ℕ) → Active s j → markFits a j ≡ true
     fit j w = or-right (not (isActive s j)) (markFits a j)
         (every-from (λ k. not (isActive s k) || markFits a k) 4 1 fits j (w .low) (omega arith)) (rw (w .on))
+
     running : (j : ℕ) → markFits a j ≡ true → Running a j
     running j e = record { client = leb-true _ _ (all-at _ 0 e); state = eqb-true _ _ (all-at _ 1 e); mine = all-at _ 2 e }
 

@@ -41,8 +41,10 @@ module _ (t : Table) (f : ℕ) (m : List ℕ) (p r : ℕ) where
     where
       mapped : Entry → Bool
       mapped e = not (forFile f e && member (e .slot) m)
+
       given : Entry → Bool
       given e = not (givesSlot f r e)
+
       one : (e : Entry) (b : Bool) → not (b && member (e .slot) m) ≡ true → not (b && eqb (e .slot) r) ≡ true
           → not (b && member (e .slot) (set m p r)) ≡ true
       one e true x y = rw (member-set m p (e .slot) r (not-true _ x) (not-true _ y))
@@ -60,18 +62,23 @@ redone-fits t f (e ∷ es) m fit new away x =
   where
     unmapped : not (forFile f e && member (e .slot) m) ≡ true
     unmapped = and-left (not (forFile f e && member (e .slot) m)) _ away
+
     rest : apart f es m ≡ true
     rest = and-right (not (forFile f e && member (e .slot) m)) _ away
+
     slot : e .slot < fileAt t (e .file) .slots
     slot = ltb-true _ _ (all-at _ 3 (and-left (entryFits t e) _ fit))
+
     later : any (givesSlot (e .file) (e .slot)) es ≡ false
     later = not-true _ (and-left (not (any (givesSlot (e .file) (e .slot)) es)) _ new)
+
     go : (b : Bool) → forFile f e ≡ b → (apart f es (if b then set m (e .page) (e .slot) else m) ≡ true)
         × MapFacts t f (if b then set m (e .page) (e .slot) else m)
     go true q =
-        let file : e .file ≡ f = eqb-true _ _ q in
-        (set-apart t f m (e .page) (e .slot) es rest (rw file at later),
-        set-fits t f m (e .page) (e .slot) x (rw file at slot) (rw q at (not-true (forFile f e && member (e .slot) m) unmapped)))
+        let file : e .file ≡ f = eqb-true _ _ q in (
+          set-apart t f m (e .page) (e .slot) es rest (rw file at later),
+          set-fits t f m (e .page) (e .slot) x (rw file at slot) (rw q at (not-true (forFile f e && member (e .slot) m) unmapped)),
+        )
     go false q = (rest, x)
 
 -- The slot of the entry, if there is one.
@@ -91,10 +98,13 @@ redone-finds t f p (e ∷ es) m fit new size =
   where
     long : length (if forFile f e then set m (e .page) (e .slot) else m) ≡ fileAt t f .pages
     long = if-test (λ (l : List ℕ). length l ≡ fileAt t f .pages) (forFile f e) _ m (λ q. length-set m (e .page) (e .slot) ∙ size) (λ q. size)
+
     later : any (forPage (e .file) (e .page)) es ≡ false
     later = not-true _ (and-left (not (any (forPage (e .file) (e .page)) es)) _ new)
+
     page : e .page < fileAt t (e .file) .pages
     page = ltb-true _ _ (all-at _ 2 (and-left (entryFits t e) _ fit))
+
     go : (b : Bool) → eqb (e .file) f ≡ b → (c : Bool) → eqb (e .page) p ≡ c
         → slotOr (find (forPage f p) es) (getD (if b then set m (e .page) (e .slot) else m) p 0)
         ≡ slotOr (if b && c then some e else find (forPage f p) es) (getD m p 0)

@@ -44,6 +44,7 @@ module _ (v : Volume) where
     where
       seen : view (stored v (allStores (view v .table) xs)) ≡ changedBy (view v) xs
       seen = view-stores v xs (sound-shaped v ok) (along-placed along)
+
       table : changedBy (view v) xs .table ≡ view v .table
       table = changed-table xs (view v)
 
