@@ -53,8 +53,8 @@ module _ (a : View) (f r : ℕ) (d : Bytes) (es : List Entry) (h : every (λ e. 
 
 -- ------------------------------------------------------------------ what is kept
 -- Client j has what it had.
-pub record Left (a₀ : View) (j : ℕ) (a : View) : Type 0 where
-  pub entries : a .records j ≡ a₀ .records j
+pub record Untouched (a₀ : View) (j : ℕ) (a : View) : Type 0 where
+  pub same : a .records j ≡ a₀ .records j
   pub pending : pendingIn a j ≡ pendingIn a₀ j
   pub holds : (f : ℕ) → a₀ .headers f .holder ≡ j → a .headers f .holder ≡ j
 
@@ -64,14 +64,14 @@ pub record Keeps (a₀ : View) (s : Session) (k : ℕ) (a : View) : Type 0 where
   pub maps : (f : ℕ) → IsFile (a₀ .table) f → decidedMap a f ≡ decidedMap a₀ f
   pub bytes : (f p : ℕ) → IsFile (a₀ .table) f → p < fileAt (a₀ .table) f .pages
       → a .slots f (getD (decidedMap a₀ f) p 0) ≡ decidedContent a₀ f p
-  pub others : (j : ℕ) → Others s k j → Left a₀ j a
+  pub others : (j : ℕ) → Others s k j → Untouched a₀ j a
 
 pub keeps-self : (a : View) (s : Session) (k : ℕ) → Lawful (a .table) a → Keeps a s k a
 keeps-self a s k l = record {
   laws = l;
   maps = λ f i. refl;
   bytes = λ f p i lt. refl;
-  others = λ j o. record { entries = refl; pending = refl; holds = λ f e. e };
+  others = λ j o. record { same = refl; pending = refl; holds = λ f e. e };
 }
 
 pub kept-content : (a₀ : View) (s : Session) (k : ℕ) (a : View) → Keeps a₀ s k a
@@ -97,7 +97,7 @@ module _ (a₀ : View) (s : Session) (k : ℕ) (a : View) (kept : Keeps a₀ s k
         (λ e. rw undecided (rw e)) (λ n. kept .maps g i);
     bytes = kept .bytes;
     others = λ i o. record {
-      entries = kept .others i o .entries;
+      same = kept .others i o .same;
       pending = kept .others i o .pending;
       holds = λ g q. if-equal (λ (h : Header). h .holder ≡ i) g f _ (a .headers g)
           (λ e. absurd (free i o (rw e at q))) (λ n. kept .others i o .holds g q);
@@ -117,7 +117,7 @@ module _ (a₀ : View) (s : Session) (k : ℕ) (a : View) (kept : Keeps a₀ s k
         ∙ kept .maps f i;
     bytes = kept .bytes;
     others = λ i o. record {
-      entries = rw (ne-eqb i j (ne i o)) (kept .others i o .entries);
+      same = rw (ne-eqb i j (ne i o)) (kept .others i o .same);
       pending = rw (ne-eqb i j (ne i o)) (kept .others i o .pending);
       holds = kept .others i o .holds;
     };
@@ -133,7 +133,7 @@ module _ (a₀ : View) (s : Session) (k : ℕ) (a : View) (kept : Keeps a₀ s k
     bytes = λ g p i lt. if-test (λ (x : Bytes). x ≡ decidedContent a₀ g p) (eqb g f && eqb (getD (decidedMap a₀ g) p 0) r) d _
         (λ e. absurd (clash g p lt e)) (λ e. kept .bytes g p i lt);
     others = λ i o. record {
-      entries = kept .others i o .entries;
+      same = kept .others i o .same;
       pending = pending-away a f r d (a .records i .entries) (ungiven i o) ∙ kept .others i o .pending;
       holds = kept .others i o .holds;
     };
@@ -142,5 +142,5 @@ module _ (a₀ : View) (s : Session) (k : ℕ) (a : View) (kept : Keeps a₀ s k
       clash : (g p : ℕ) → p < fileAt (a₀ .table) g .pages → (eqb g f && eqb (getD (decidedMap a₀ g) p 0) r) ≡ true → ⊥
       clash g p lt e =
           let gf : g ≡ f = eqb-true _ _ (and-left (eqb g f) _ e) in
-          let same : getD (decidedMap a₀ g) p 0 ≡ r = eqb-true _ _ (and-right (eqb g f) _ e) in
-          unmapped p (rw gf at lt) (rw gf at same)
+          let slot : getD (decidedMap a₀ g) p 0 ≡ r = eqb-true _ _ (and-right (eqb g f) _ e) in
+          unmapped p (rw gf at lt) (rw gf at slot)

@@ -25,7 +25,7 @@ use Rattle.rules.specs.Plans.{beginPlan, openPlan}
 use Rattle.rules.specs.Content.{decidedMap}
 use Rattle.rules.proofs.AllowedLaws.{Others, Running, MayBegin, MayAct, MayOpen, running-undecided, running-foreign}
 use Rattle.rules.proofs.ContentLaws.{decidedHeader, unheld-map, decided-fits}
-use Rattle.rules.proofs.RecoveryLaws.{held-files, held-member, freeing, recovery-is}
+use Rattle.rules.proofs.RecoveryLaws.{held-files, held-member, freeing, map-after, recovery-is}
 use Rattle.atomicity.proofs.KeepLaws.{Keeps, keeps-self, keep-header, keep-record}
 
 -- Every prefix of the updates, made on view a, keeps what a₀ has.
@@ -110,7 +110,7 @@ module _ (a : View) (s : Session) (k : ℕ) where
       idle-unnamed : isOrphaned a s k ≡ false → Unnamed (a .table) k a
       idle-unnamed e f i q =
           let idle : eqb (a .records k .state) 0 ≡ true = not-false _ (rw (w .off) at e) in
-          let live : eqb (a .records (a .headers f .holder) .state) 0 ≡ false = laws .headers f i .holder (rw q (omega (arith, w .low))) .live in
+          let live = laws .headers f i .holder (rw q (omega (arith, w .low))) .live in
           no-both _ idle (rw q at live)
 
   -- ------------------------------------------------------------------ open
@@ -134,7 +134,7 @@ module _ (a : View) (s : Session) (k : ℕ) where
         run = w .act .running
 
         own : b .records k ≡ a .records k
-        own = kept .others k (record { active = w .act .active; other = omega (arith, w .act .active .low) }) .entries
+        own = kept .others k (record { active = w .act .active; other = omega (arith, w .act .active .low) }) .same
 
         undecided : (not (eqb k 0) && isDecided b k) ≡ false
         undecided = rw (own, ne-eqb k 0 (omega (arith, w .act .active .low))) (running-undecided a k run)
@@ -153,7 +153,8 @@ module _ (a : View) (s : Session) (k : ℕ) where
   unfolding openPlan
   open-along f w =
       if-equal (KeptAlong a s 0 a) (a .headers f .holder) k [] _ (λ e. last self)
-      (λ n. if-equal (KeptAlong a s 0 a) (a .headers f .holder) 0 _ _ (unowned n) (orphaned n))
+      (λ n. if-equal (KeptAlong a s 0 a) (a .headers f .holder) 0 _ _
+      (λ e. rw (sym (unheld-map a f e)) (takes f w n a self)) (λ z. orphaned (a .headers f .holder) refl n (omega arith)))
     where
       laws : Lawful (a .table) a
       laws = w .act .ready .laws
@@ -161,14 +162,9 @@ module _ (a : View) (s : Session) (k : ℕ) where
       self : Keeps a s 0 a
       self = keeps-self a s 0 laws
 
-      unowned : a .headers f .holder ≢ k → a .headers f .holder ≡ 0 → KeptAlong a s 0 a (setHeader f (record { holder = k; map = a .headers f .map }) ∷ [])
-      unowned n e =
-          rw (sym (unheld-map a f e)) (takes f w n a self)
-
-      orphaned : a .headers f .holder ≢ k → a .headers f .holder ≢ 0
-          → KeptAlong a s 0 a (recovery (isDecided a (a .headers f .holder)) a (a .headers f .holder)
-          ++ (setHeader f (record { holder = k; map = mapAfter (isDecided a (a .headers f .holder)) a (a .headers f .holder) f }) ∷ []))
-      orphaned n z =
-          let q : mapAfter (isDecided a (a .headers f .holder)) a (a .headers f .holder) f ≡ decidedMap a f = rw (ne-eqb _ 0 z) in
-          rw q (recovery-then a s 0 (a .headers f .holder) laws (omega arith) (laws .headers f (w .file) .holder z .client)
-          (λ i o x. unheld f w n i o (sym x)) _ (λ b kept unnamed. takes f w n b kept))
+      orphaned : (h : ℕ) → a .headers f .holder ≡ h → a .headers f .holder ≢ k → 1 ≤ h → KeptAlong a s 0 a
+          (recovery (isDecided a h) a h ++ (setHeader f (record { holder = k; map = mapAfter (isDecided a h) a h f }) ∷ []))
+      orphaned h e n pos =
+          let hi : h ≤ a .table .clients = rw e at (laws .headers f (w .file) .holder (omega arith) .client) in
+          rw (map-after a h f pos e) (recovery-then a s 0 h laws pos hi (λ i o x. unheld f w n i o (e ∙ sym x)) _
+          (λ b kept unnamed. takes f w n b kept))

@@ -30,17 +30,19 @@ use Rattle.atomicity.proofs.PlanLaws.{KeptAlong, abort-along, begin-alo
 use Rattle.atomicity.proofs.WriteLaws.{commit-along}
 
 -- ------------------------------------------------------------------ clients that are left alone
-still-running : {a₀ a : View} {s : Session} {k : ℕ} → Keeps a₀ s k a → a .table ≡ a₀ .table → (j : ℕ) → Others s k j → Running a₀ j → Running a j
+still-running : {a₀ a : View} {s : Session} {k : ℕ} → Keeps a₀ s k a → a .table ≡ a₀ .table
+    → (j : ℕ) → Others s k j → Running a₀ j → Running a j
 still-running {a₀} {a} kept table j o r = record {
   client = rw table (r .client);
-  state = ap (λ (x : Record). x .state) (kept .others j o .entries) ∙ r .state;
-  mine = rw (kept .others j o .entries)
+  state = ap (λ (x : Record). x .state) (kept .others j o .same) ∙ r .state;
+  mine = rw (kept .others j o .same)
       (every-implies (λ e. eqb (a₀ .headers (e .file) .holder) j) (λ e. eqb (a .headers (e .file) .holder) j)
       (λ e h. eq-eqb _ _ (kept .others j o .holds (e .file) (eqb-true _ _ h))) (a₀ .records j .entries) (r .mine));
 }
 
-along-running : {a₀ : View} {s : Session} {k : ℕ} (xs : List Update) → KeptAlong a₀ s k a₀ xs → (j : ℕ) → Others s k j → Running a₀ j → Running (changedBy a₀ xs) j
-along-running {a₀} xs along = still-running (along-end along) (changed-table xs a₀)
+along-running : {a₀ : View} {s : Session} {k : ℕ} {xs : List Update} → KeptAlong a₀ s k a₀ xs
+    → (j : ℕ) → Others s k j → Running a₀ j → Running (changedBy a₀ xs) j
+along-running {a₀} {xs = xs} along = still-running (along-end along) (changed-table xs a₀)
 
 -- ------------------------------------------------------------------ each call
 module _ (a : View) (s : Session) (marks : length (s .active) ≡ 4) where
@@ -53,7 +55,7 @@ module _ (a : View) (s : Session) (marks : length (s .active) ≡ 4) where
   begin-runs : (k : ℕ) → MayBegin a s k → (j : ℕ) → Active (setActive s k true) j → Running (changedBy a (beginPlan a s k)) j
   unfolding beginPlan
   begin-runs k w j x = by-equal j k (λ e. rw e own)
-      (λ n. let o = other-of k j true (w .low) x n in along-running (beginPlan a s k) (begin-along a s k w) j o (w .ready .runs j (o .active)))
+      (λ n. let o = other-of k j true (w .low) x n in along-running (begin-along a s k w) j o (w .ready .runs j (o .active)))
     where
       end : View
       end = changedBy a (beginPlan a s k)
@@ -70,7 +72,7 @@ module _ (a : View) (s : Session) (marks : length (s .active) ≡ 4) where
 
   open-runs : (k f : ℕ) → MayOpen a s k f → (j : ℕ) → Active s j → Running (changedBy a (openPlan a k f)) j
   open-runs k f w j x =
-      along-running (openPlan a k f) (open-along a s k f w) j (record { active = x; other = omega (arith, x .low) }) (w .act .ready .runs j x)
+      along-running (open-along a s k f w) j (record { active = x; other = omega (arith, x .low) }) (w .act .ready .runs j x)
 
   write-runs : (k f p : ℕ) (d : Bytes) → MayWrite a s k f p d → (o : Option Entry) → (j : ℕ) → Active s j
       → Running (changedBy a (writePlan a k f p d o)) j
@@ -103,10 +105,10 @@ module _ (a : View) (s : Session) (marks : length (s .active) ≡ 4) where
       (λ n. h j (other-of k j false (w .active .low) x n))
 
   abort-runs : (k : ℕ) → MayAct a s k → (j : ℕ) → Active (setActive s k false) j → Running (changedBy a (recovery false a k)) j
-  abort-runs k w = ended-runs k w _ (λ j o. along-running _ (abort-along a s k w) j o (w .ready .runs j (o .active)))
+  abort-runs k w = ended-runs k w _ (λ j o. along-running (abort-along a s k w) j o (w .ready .runs j (o .active)))
 
   commit-runs : (k : ℕ) → MayAct a s k → (j : ℕ) → Active (setActive s k false) j → Running (changedBy (decidedView a k) (recovery true a k)) j
-  commit-runs k w = ended-runs k w _ (λ j o. along-running _ (commit-along a s k w) j o (decided j o))
+  commit-runs k w = ended-runs k w _ (λ j o. along-running (commit-along a s k w) j o (decided j o))
     where
       decided : (j : ℕ) → Others s k j → Running (decidedView a k) j
       decided j o =

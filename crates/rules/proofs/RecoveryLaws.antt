@@ -43,15 +43,16 @@ module _ (a : View) (k : ℕ) where
 abbrev pub freeing : View → List ℕ → List Update
 freeing a fs = map (λ f. setHeader f (decidedHeader a f 0)) fs
 
+-- The map that recovery of its holder leaves to a file is its decided map.
+pub map-after : (a : View) (k f : ℕ) → 1 ≤ k → a .headers f .holder ≡ k → mapAfter (isDecided a k) a k f ≡ decidedMap a f
+map-after a k f pos e = rw (e, ne-eqb k 0 (omega arith))
+
 pub recovery-is : (a : View) (k : ℕ) → 1 ≤ k → recovery (isDecided a k) a k ≡ freeing a (heldFiles a k) ++ (setRecord k idleRecord ∷ [])
 unfolding recovery heldFiles
 recovery-is a k pos = ap (λ (l : List Update). l ++ (setRecord k idleRecord ∷ []))
     (map-every (λ f. eqb (a .headers f .holder) k) _ _
-    (λ f q. ap (λ (m : List ℕ). setHeader f (record { holder = 0; map = m })) (after f (eqb-true _ _ q)))
+    (λ f q. ap (λ (m : List ℕ). setHeader f (record { holder = 0; map = m })) (map-after a k f pos (eqb-true _ _ q)))
     (heldFiles a k) (every-filter (λ f. eqb (a .headers f .holder) k) (fileNumbers (a .table))))
-  where
-    after : (f : ℕ) → a .headers f .holder ≡ k → mapAfter (isDecided a k) a k f ≡ decidedMap a f
-    after f e = rw (e, ne-eqb k 0 (omega arith))
 
 -- The view with record k decided.
 abbrev pub decidedView : View → ℕ → View
