@@ -10,15 +10,15 @@ use native.Mathlib.Omega.{arith}
 use borrow.Author.Tests.{eqb-true, ne-eqb, not-false}
 use lib.Dec.{eqb}
 use Rattle.interface.specs.declared.Session.{Session}
-use Rattle.sector.specs.Lists.{every, member}
+use Rattle.sector.specs.Lists.{if_then_else_, every, member}
 use Rattle.sector.specs.Contents.{Table, Header, idleRecord, openRecord}
 use Rattle.sector.proofs.ListLaws.{and-left, and-right, or-right, no-both}
 use Rattle.sector.proofs.CaseLaws.{if-test, if-equal}
 use Rattle.volume.specs.Places.{isFile}
-use Rattle.volume.specs.Views.{View, Update, setRecord, setHeader, changed}
+use Rattle.volume.specs.Views.{View, Update, setRecord, setHeader, changed, changedBy}
 use Rattle.volume.proofs.PlaceLaws.{IsFile, file-of}
 use Rattle.volume.proofs.LawfulLaws.{HeaderFacts, Lawful, idle-facts, open-facts, placed-record, placed-header}
-use Rattle.volume.proofs.AlongLaws.{Along, last, step}
+use Rattle.volume.proofs.AlongLaws.{Along, last, step, last-record}
 use Rattle.rules.specs.Sessions.{isActive, isOrphaned}
 use Rattle.rules.specs.Recovery.{isDecided, mapAfter, heldFiles, recovery}
 use Rattle.rules.specs.Plans.{beginPlan, openPlan}
@@ -112,6 +112,10 @@ module _ (a : View) (s : Session) (k : ℕ) where
           let idle : eqb (a .records k .state) 0 ≡ true = not-false _ (rw (w .off) at e) in
           let live = laws .headers f i .holder (rw q (omega (arith, w .low))) .live in
           no-both _ idle (rw q at live)
+
+  pub begin-opens : changedBy a (beginPlan a s k) .records k ≡ openRecord
+  unfolding beginPlan
+  begin-opens = last-record (if isOrphaned a s k then recovery (isDecided a k) a k else []) a k openRecord
 
   -- ------------------------------------------------------------------ open
   -- All active clients are left alone, k too: the others are those that aren't 0.
