@@ -17,15 +17,11 @@ use Rattle.sector.specs.Lists.{first, every}
 use Rattle.sector.specs.Sectors.{Volume}
 use Rattle.sector.proofs.ListLaws.{and-left, and-right}
 use Rattle.sector.proofs.CaseLaws.{if-test}
-use Rattle.volume.specs.Views.{Update}
 use Rattle.volume.specs.Volumes.{view}
 use Rattle.volume.specs.Sound.{sound}
 use Rattle.volume.specs.Stores.{stored, allStores}
 use Rattle.volume.specs.Format.{tableFor, format}
-use Rattle.volume.proofs.StoreLaws.{sound-shaped, view-stores}
-use Rattle.volume.proofs.LawfulLaws.{Lawful}
-use Rattle.volume.proofs.AlongLaws.{Along, along-placed}
-use Rattle.volume.proofs.SoundLaws.{updates-sound, prefix-sound}
+use Rattle.volume.proofs.SoundLaws.{along-view, updates-sound, prefix-sound}
 use Rattle.volume.proofs.FormatLaws.{new-sound, FormatFacts, format-done}
 use Rattle.rules.specs.Sessions.{sessionFits}
 use Rattle.rules.specs.Plans.{Call, begin, openFile, write, commit, abort, plan, sessionAfter}
@@ -36,18 +32,14 @@ use Rattle.rules.proofs.CallLaws.{call-case, read-case}
 use Rattle.rules.proofs.AllowedLaws.{running-fits, allowed}
 use Rattle.atomicity.specs.Runs.{Step, calls, reads, Run, started, given, stepped}
 use Rattle.atomicity.specs.NotHollow.{StaysSound, refusalOf, readRefusalOf, Accepted, AlwaysAccepted}
-use Rattle.atomicity.proofs.WriteLaws.{plan-lawful}
+use Rattle.atomicity.proofs.StepLaws.{lawful-along}
 use Rattle.atomicity.proofs.Theorem.{startedAs}
 use Rattle.atomicity.proofs.ReturnLaws.{returned-runs, returned-marks}
 
 -- ------------------------------------------------------------------ every call leaves a sound volume
-module _ (v : Volume) (s : Session) (c : Call) (e : first (tests (sound v) (view v) s c) ≡ 0) where
-  lawful-along : Along (view v .table) (Lawful (view v .table)) (view v) (plan (view v) s c)
-  lawful-along = plan-lawful (view v) s c (allowed v s c e)
-
 pub stays-sound : StaysSound
 stays-sound v s c budget ok = call-case (λ (x : After). sound (x .volume) ≡ true) v s c budget (λ n e. ok)
-    (λ e. updates-sound v ok (lawful-along v s c e)) (λ e. prefix-sound v budget ok (lawful-along v s c e))
+    (λ e. updates-sound v ok (lawful-along v s c e)) (λ e. prefix-sound v ok (lawful-along v s c e) budget)
 
 -- ------------------------------------------------------------------ and a session that fits it
 pub record Steady (v : Volume) (s : Session) : Type 0 where
@@ -65,17 +57,14 @@ given-steady v s false h = h
 call-steady : (v : Volume) (s : Session) → Steady v s → (c : Call) (budget : ℕ)
     → let x = call v s c budget in Steady (x .volume) (x .session)
 call-steady v s h c budget = call-case (λ (x : After). Steady (x .volume) (x .session)) v s c budget (λ n e. h) ended
-    (λ e. new-steady _ (prefix-sound v budget (h .volume) (lawful-along v s c e)))
+    (λ e. new-steady _ (prefix-sound v (h .volume) (lawful-along v s c e) budget))
   where
-    updates : List Update
-    updates = plan (view v) s c
-
     ended : first (tests (sound v) (view v) s c) ≡ 0 → Steady (stored v (allStores (view v .table) (plan (view v) s c))) (sessionAfter s c)
     ended e =
         let along = lawful-along v s c e in
         record {
           volume = updates-sound v (h .volume) along;
-          session = rw (view-stores v updates (sound-shaped v (h .volume)) (along-placed along))
+          session = rw (along-view v (h .volume) along)
               (running-fits _ (sessionAfter s c) (returned-runs (view v) s (h .marks) c (allowed v s c e)));
           marks = returned-marks (view v) s (h .marks) c;
         }

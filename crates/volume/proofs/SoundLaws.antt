@@ -14,7 +14,7 @@ use Rattle.volume.specs.Lawful.{lawful}
 use Rattle.volume.specs.Volumes.{tableOf, bytesAt, view}
 use Rattle.volume.specs.Sound.{canonical, sound}
 use Rattle.volume.specs.Stores.{stored, allStores}
-use Rattle.volume.proofs.StoreLaws.{sound-shaped, stores-take, view-stores}
+use Rattle.volume.proofs.StoreLaws.{sound-shaped, stores-take, view-stores, view-prefix}
 use Rattle.volume.proofs.LawfulLaws.{Lawful, facts-lawful}
 use Rattle.volume.proofs.AlongLaws.{Along, along-prefix, along-end, along-placed, changed-table}
 use Rattle.volume.proofs.CanonicalLaws.{encoded-facts, facts-encoded, Canonical, canonical-stores}
@@ -34,20 +34,27 @@ module _ (v : Volume) where
       (rw e (all-cons _ (eq-eqb _ _ (c .shaped .size)) (all-cons _ (facts-encoded t (bytesAt t v) (c .bytes)) all-nil))) all-nil)
 
 -- ------------------------------------------------------------------ updates
-module _ (v : Volume) where
-  pub updates-sound : {xs : List Update} → sound v ≡ true → Along (view v .table) (Lawful (view v .table)) (view v) xs
-      → sound (stored v (allStores (view v .table) xs)) ≡ true
-  updates-sound {xs} ok along =
-      sound-by (stored v (allStores (view v .table) xs)) (view v .table) (ap (λ (a : View). a .table) seen ∙ table)
-      (rw seen (facts-lawful (view v .table) (changedBy (view v) xs) table (along-end along)))
-      (canonical-stores (view v .table) xs v (sound-canonical v ok) (along-placed along))
-    where
-      seen : view (stored v (allStores (view v .table) xs)) ≡ changedBy (view v) xs
-      seen = view-stores v xs (sound-shaped v ok) (along-placed along)
+-- The view after the stores of updates that have their places, and after a prefix of them.
+module _ (v : Volume) (ok : sound v ≡ true) {P : View → Type 0} {xs : List Update} (along : Along (view v .table) P (view v) xs) where
+  pub along-view : view (stored v (allStores (view v .table) xs)) ≡ changedBy (view v) xs
+  along-view = view-stores v xs (sound-shaped v ok) (along-placed along)
 
-      table : changedBy (view v) xs .table ≡ view v .table
-      table = changed-table xs (view v)
+  pub prefix-view : (n : ℕ) → view (stored v (take n (allStores (view v .table) xs))) ≡ changedBy (view v) (take n xs)
+  prefix-view n = view-prefix v xs n (sound-shaped v ok) (along-placed along)
 
-  pub prefix-sound : {xs : List Update} (n : ℕ) → sound v ≡ true → Along (view v .table) (Lawful (view v .table)) (view v) xs
-      → sound (stored v (take n (allStores (view v .table) xs))) ≡ true
-  prefix-sound {xs} n ok along = rw (stores-take (view v .table) n xs) (updates-sound ok (along-prefix n along))
+pub updates-sound : (v : Volume) → sound v ≡ true → {xs : List Update} → Along (view v .table) (Lawful (view v .table)) (view v) xs
+    → sound (stored v (allStores (view v .table) xs)) ≡ true
+updates-sound v ok {xs} along =
+    sound-by (stored v (allStores (view v .table) xs)) (view v .table) (ap (λ (a : View). a .table) seen ∙ table)
+    (rw seen (facts-lawful (view v .table) (changedBy (view v) xs) table (along-end along)))
+    (canonical-stores (view v .table) xs v (sound-canonical v ok) (along-placed along))
+  where
+    seen : view (stored v (allStores (view v .table) xs)) ≡ changedBy (view v) xs
+    seen = along-view v ok along
+
+    table : changedBy (view v) xs .table ≡ view v .table
+    table = changed-table xs (view v)
+
+pub prefix-sound : (v : Volume) → sound v ≡ true → {xs : List Update} → Along (view v .table) (Lawful (view v .table)) (view v) xs
+    → (n : ℕ) → sound (stored v (take n (allStores (view v .table) xs))) ≡ true
+prefix-sound v ok {xs} along n = rw (stores-take (view v .table) n xs) (updates-sound v ok (along-prefix n along))
