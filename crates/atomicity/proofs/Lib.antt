@@ -6,4 +6,4 @@ pub mod RelationLaws
 pub mod StepLaws
 pub mod Theorem
 pub mod ReturnLaws
-pub mod SoundLaws
+pub mod NotHollow
