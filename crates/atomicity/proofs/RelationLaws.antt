@@ -79,7 +79,7 @@ module _ {a₀ : View} {s : Session} {k : ℕ} (m : Model) (pages : PagesMatch a
   pages-kept a e kept f p i lt =
       let file : IsFile (a₀ .table) f = rw e at i in
       let page : p < fileAt (a₀ .table) f .pages = rw e at lt in
-      kept-content a₀ s k a kept f p file page ∙ pages f p file page
+      kept-content kept f p file page ∙ pages f p file page
 
   prefix-pages : {xs : List Update} → KeptAlong a₀ s k a₀ xs → (n : ℕ) → PagesMatch (changedBy a₀ (take n xs)) m
   prefix-pages {xs} along n = pages-kept _ (changed-table (take n xs) a₀) (along-take n along)
@@ -124,7 +124,7 @@ module _ (a : View) (s : Session) (m : Model) (h : Faithful a s m) where
   }
     where
       along : KeptAlong a s k a (beginPlan a s k)
-      along = begin-along a s k w
+      along = begin-along w
 
       none-given : pendingIn (changedBy a (beginPlan a s k)) k ≡ noPending
       none-given = ap (λ (r : Record). pendingBy (changedBy a (beginPlan a s k) .slots) (r .entries)) (begin-opens a s k)
@@ -148,7 +148,7 @@ module _ (a : View) (s : Session) (m : Model) (h : Faithful a s m) where
   }
     where
       along : KeptAlong a s 0 a (openPlan a k f)
-      along = open-along a s k f w
+      along = open-along w
 
       only : OnlyOwn 0 a (changedBy a (openPlan a k f)) s s m m
       only = record {
@@ -169,16 +169,16 @@ module _ (a : View) (s : Session) (m : Model) (h : Faithful a s m) where
       xs = writePlan a k f p d (entryFor a k f p)
 
       along : KeptAlong a s k a (writePlan a k f p d (entryFor a k f p))
-      along = write-along a s k f p d w (entryFor a k f p) refl
+      along = write-along w (entryFor a k f p) refl
 
       facts : RecordFacts (a .table) (a .records k)
-      facts = own-record a s k (w .place .act)
+      facts = own-record (w .place .act)
 
       written : (o : Option Entry) → entryFor a k f p ≡ o
           → withPage f p d (pendingIn a k) ≡ pendingIn (changedBy a (writePlan a k f p d o)) k
-      written (some e) found = page-again (a .table) a (a .records k) facts f p d e found
+      written (some e) found = page-again facts a f p d e found
       written none new = rw (eq-eqb k k refl)
-          (page-first (a .table) a (a .records k) facts f p d (chosen a k f p) new (new-free a s k f p d w new .ungiven))
+          (page-first facts a f p d (chosen a k f p) new (new-free w new .ungiven))
 
       only : OnlyOwn k a (changedBy a xs) s s m (withPending m k (withPage f p d (m .pending k)))
       only = record {
@@ -216,7 +216,7 @@ module _ (a : View) (s : Session) (m : Model) (h : Faithful a s m) where
     }
       where
         along : KeptAlong a s k a (recovery false a k)
-        along = abort-along a s k w
+        along = abort-along w
 
     -- The first store decides: from then on the content is that of the decided view, which is the model's after the commit.
     commit-outcome : Outcome a s m (commit k)
@@ -228,10 +228,10 @@ module _ (a : View) (s : Session) (m : Model) (h : Faithful a s m) where
     }
       where
         along : KeptAlong (decidedView a k) s k (decidedView a k) (recovery true a k)
-        along = commit-along a s k w
+        along = commit-along w
 
         decided : PagesMatch (decidedView a k) (committed m k)
-        decided f p i lt = commit-content a s k w f p i
+        decided f p i lt = commit-content w f p i
             ∙ rw (h .pages f p i lt, h .tracked k (w .active .low) (w .active .high) .active (w .active .on))
 
         cuts : (n : ℕ) → PagesMatch (changedBy a (take n (plan a s (commit k)))) (effect m (commit k) (crashed n))

@@ -61,7 +61,7 @@ module _ (a : View) (s : Session) (marks : length (s .active) ≡ 4) where
 
   begin-runs : (k : ℕ) → MayBegin a s k → (j : ℕ) → Active (setActive s k true) j → Running (changedBy a (beginPlan a s k)) j
   begin-runs k w j x = by-equal j k (λ e. rw e own)
-      (λ n. let o = other-of k j true (w .low) x n in along-running (begin-along a s k w) j o (w .ready .runs j (o .active)))
+      (λ n. let o = other-of k j true (w .low) x n in along-running (begin-along w) j o (w .ready .runs j (o .active)))
     where
       end : View
       end = changedBy a (beginPlan a s k)
@@ -75,7 +75,7 @@ module _ (a : View) (s : Session) (marks : length (s .active) ≡ 4) where
 
   open-runs : (k f : ℕ) → MayOpen a s k f → (j : ℕ) → Active s j → Running (changedBy a (openPlan a k f)) j
   open-runs k f w j x =
-      along-running (open-along a s k f w) j (record { active = x; other = omega (arith, x .low) }) (w .act .ready .runs j x)
+      along-running (open-along w) j (record { active = x; other = omega (arith, x .low) }) (w .act .ready .runs j x)
 
   write-runs : (k f p : ℕ) (d : Bytes) → MayWrite a s k f p d → (o : Option Entry) → (j : ℕ) → Active s j
       → Running (changedBy a (writePlan a k f p d o)) j
@@ -102,11 +102,11 @@ module _ (a : View) (s : Session) (marks : length (s .active) ≡ 4) where
       (λ n. h j (other-of k j false (w .active .low) x n))
 
   abort-runs : (k : ℕ) → MayAct a s k → (j : ℕ) → Active (setActive s k false) j → Running (changedBy a (recovery false a k)) j
-  abort-runs k w = ended-runs k w _ (λ j o. along-running (abort-along a s k w) j o (w .ready .runs j (o .active)))
+  abort-runs k w = ended-runs k w _ (λ j o. along-running (abort-along w) j o (w .ready .runs j (o .active)))
 
   commit-runs : (k : ℕ) → MayAct a s k → (j : ℕ) → Active (setActive s k false) j
       → Running (changedBy (decidedView a k) (recovery true a k)) j
-  commit-runs k w = ended-runs k w _ (λ j o. along-running (commit-along a s k w) j o
+  commit-runs k w = ended-runs k w _ (λ j o. along-running (commit-along w) j o
       (record-running a k (decidedRecord (a .records k)) j (o .other) (w .ready .runs j (o .active))))
 
   pub returned-runs : (c : Call) → Allowed a s c → (j : ℕ) → Active (sessionAfter s c) j → Running (changedBy a (plan a s c)) j

@@ -74,12 +74,12 @@ slot-shown : (a : View) (s : Session) (m : Model) → Matches a s m → (k f p :
     → (o : Option Entry) → entryFor a k f p ≡ o
     → (a .slots f (slotFor a f p o) ≡ orElse (bytesFor (a .slots) o) (m .pages f p)) × (slotFor a f p o < fileAt (a .table) f .slots)
 slot-shown a s m h k f p w none e =
-    let q : decidedMap a f ≡ a .headers f .map = own-map a s k (w .act) f (w .holder) in (
+    let q : decidedMap a f ≡ a .headers f .map = own-map (w .act) f (w .holder) in (
       sym (ap (λ (l : List ℕ). a .slots f (getD l p 0)) q) ∙ h .pages f p (w .file) (w .page),
-      rw q at (decided-slot a (w .act .ready .laws) f p (w .file) (w .page)),
+      rw q at (decided-slot (w .act .ready .laws) f p (w .file) (w .page)),
     )
 slot-shown a s m h k f p w (some e) found =
-    let x : EntryFacts (a .table) f p e = entry-facts (a .table) (a .records k) (own-record a s k (w .act)) f p e found in
+    let x : EntryFacts (a .table) f p e = entry-facts (own-record (w .act)) f p e found in
     (rw (x .file), x .slot)
 
 -- A client that reads is active, so the model's pending pages are those of its record.

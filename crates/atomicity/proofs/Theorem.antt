@@ -67,7 +67,7 @@ new-content : (t : Table) → TableFacts t → (f p : ℕ) → IsFile t f → p 
     → decidedContent (view (newVolume t)) f p ≡ replicate 256 0
 new-content t facts f p i lt =
     ap (λ (m : List ℕ). a .slots f (getD m p 0)) (unheld-map a f (ap (λ (h : Header). h .holder) header) ∙ ap (λ (h : Header). h .map) header)
-    ∙ rw (from-at (fileAt t f .pages) 0 p lt) (new-slot t facts f (0 + p) i (omega (arith, file-facts t facts f i .room)))
+    ∙ rw (from-at (fileAt t f .pages) 0 p lt) (new-slot t facts f (0 + p) i (omega (arith, file-facts facts f i .room)))
   where
     a : View
     a = view (newVolume t)

@@ -47,12 +47,12 @@ pub record Running (a : View) (j : ℕ) : Type 0 where
   pub mine : every (λ e. eqb (a .headers (e .file) .holder) j) (a .records j .entries) ≡ true
 
 -- It isn't decided, and has no entry for a file that it doesn't hold.
-pub running-undecided : (a : View) (j : ℕ) → Running a j → isDecided a j ≡ false
-running-undecided a j r = rw (r .state)
+pub running-undecided : {a : View} {j : ℕ} → Running a j → isDecided a j ≡ false
+running-undecided r = rw (r .state)
 
-pub running-foreign : (a : View) (j f : ℕ) → Running a j → a .headers f .holder ≢ j
+pub running-foreign : {a : View} {j : ℕ} → Running a j → (f : ℕ) → a .headers f .holder ≢ j
     → (t : Entry → Bool) → every (λ e. not (forFile f e && t e)) (a .records j .entries) ≡ true
-running-foreign a j f r n t =
+running-foreign {a} {j} r f n t =
     every-implies (λ e. eqb (a .headers (e .file) .holder) j) (λ e. not (forFile f e && t e)) one (a .records j .entries) (r .mine)
   where
     one : (e : Entry) → eqb (a .headers (e .file) .holder) j ≡ true → not (forFile f e && t e) ≡ true

@@ -132,18 +132,22 @@ held-map a f k e n =
     if-test (λ m. m ≡ a .headers f .map) (not (eqb (a .headers f .holder) 0) && isDecided a (a .headers f .holder)) _ _
     (λ b. absurd (true≢false (sym (and-right (not (eqb (a .headers f .holder) 0)) _ b) ∙ d))) (λ b. refl)
 
-module _ (a : View) (l : Lawful (a .table) a) where
+module _ {a : View} (l : Lawful (a .table) a) where
   pub decided-fits : (f : ℕ) → IsFile (a .table) f → MapFacts (a .table) f (decidedMap a f)
   decided-fits f i = if-test (MapFacts (a .table) f) (not (eqb (a .headers f .holder) 0) && isDecided a (a .headers f .holder)) _ _
       (λ b. redo (eqb-false _ _ (not-true _ (and-left (not (eqb (a .headers f .holder) 0)) _ b)))) (λ b. l .headers f i .map)
     where
+      k : ℕ
+      k = a .headers f .holder
+
       redo : a .headers f .holder ≢ 0 → MapFacts (a .table) f (redone f (a .records (a .headers f .holder) .entries) (a .headers f .map))
       redo n =
-          let h : HolderFacts (a .table) (a .records (a .headers f .holder)) f (a .headers f) = l .headers f i .holder n in
-          let r : RecordFacts (a .table) (a .records (a .headers f .holder)) = l .records (a .headers f .holder) (omega arith) (h .client) in
+          let h : HolderFacts (a .table) (a .records k) f (a .headers f) = l .headers f i .holder n in
+          let r : RecordFacts (a .table) (a .records k) = l .records k (omega arith) (h .client) in
           redone-fits (a .table) f _ (a .headers f .map) (r .fit) (r .slots) (h .away) (l .headers f i .map)
 
-  pub decided-slot : (f p : ℕ) → IsFile (a .table) f → p < fileAt (a .table) f .pages → getD (decidedMap a f) p 0 < fileAt (a .table) f .slots
+  pub decided-slot : (f p : ℕ) → IsFile (a .table) f → p < fileAt (a .table) f .pages
+      → getD (decidedMap a f) p 0 < fileAt (a .table) f .slots
   decided-slot f p i lt =
       let x : MapFacts (a .table) f (decidedMap a f) = decided-fits f i in
       ltb-true _ _ (every-at (λ r. ltb r (fileAt (a .table) f .slots)) (decidedMap a f) p 0 (x .below) (rw (x .size) lt))

@@ -184,7 +184,7 @@ module _ (t : Table) (facts : TableFacts t) where
     where
       headers : (f : ℕ) → IsFile t f → HeaderFacts t (view (newVolume t) .records) f (view (newVolume t) .headers f)
       headers f i =
-          let x : FileFacts (fileAt t f) = file-facts t facts f i in
+          let x : FileFacts (fileAt t f) = file-facts facts f i in
           rw (new-header f i) (record {
             map = record {
               size = from-length (fileAt t f .pages) 0;

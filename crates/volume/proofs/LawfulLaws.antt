@@ -36,7 +36,7 @@ pub record FileFacts (x : File) : Type 0 where
   pub few : x .pages ≤ 120
   pub room : x .pages ≤ x .slots
 
-module _ (t : Table) where
+module _ {t : Table} where
   table-facts : tableFits t ≡ true → TableFacts t
   table-facts e = record {
     size = leb-true _ _ (all-at _ 0 e);
@@ -73,7 +73,7 @@ pub record EntryFacts (t : Table) (f p : ℕ) (e : Entry) : Type 0 where
   pub page : e .page ≡ p
   pub slot : e .slot < fileAt t f .slots
 
-module _ (t : Table) (r : Record) where
+module _ {t : Table} {r : Record} where
   record-facts : recordFits t r ≡ true → RecordFacts t r
   record-facts e = record {
     state = leb-true _ _ (all-at _ 0 e);
@@ -151,8 +151,8 @@ pub record Lawful (t : Table) (a : View) : Type 0 where
 pub lawful-facts : (a : View) → lawful a ≡ true → Lawful (a .table) a
 unfolding lawful
 lawful-facts a e = record {
-  table = table-facts (a .table) (all-at _ 0 e);
-  records = λ k lo hi. record-facts (a .table) (a .records k)
+  table = table-facts (all-at _ 0 e);
+  records = λ k lo hi. record-facts
       (every-from (λ k. recordFits (a .table) (a .records k)) (a .table .clients) 1 (all-at _ 1 e) k lo (omega arith));
   headers = λ f i. header-facts (a .table) (a .records) f (a .headers f)
       (every-from (λ f. headerFits (a .records) (a .table) f (a .headers f)) (length (a .table .files)) 1 (all-at _ 2 e) f (i .low) (omega arith));
@@ -161,13 +161,13 @@ lawful-facts a e = record {
 pub facts-lawful : (t : Table) (a : View) → a .table ≡ t → Lawful t a → lawful a ≡ true
 unfolding lawful
 facts-lawful t a e l = rw e
-    (all-cons _ (table-fits t (l .table))
-    (all-cons _ (every-all _ (t .clients) 1 (λ k lo hi. record-fits t (a .records k) (l .records k lo (omega arith))))
+    (all-cons _ (table-fits (l .table))
+    (all-cons _ (every-all _ (t .clients) 1 (λ k lo hi. record-fits (l .records k lo (omega arith))))
     (all-cons _ (every-all _ (length (t .files)) 1
     (λ f lo hi. header-fits t (a .records) f (a .headers f) (l .headers f (record { low = lo; high = omega arith })))) all-nil)))
 
 -- ------------------------------------------------------------------ updates
-module _ (t : Table) (a : View) (l : Lawful t a) where
+module _ {t : Table} {a : View} (l : Lawful t a) where
   pub lawful-slot : (f r : ℕ) (d : Bytes) → Lawful t (changed a (setSlot f r d))
   lawful-slot f r d = record { table = l .table; records = l .records; headers = l .headers }
 
@@ -193,9 +193,9 @@ module _ (t : Table) (a : View) (l : Lawful t a) where
     };
   }
 
-  -- ------------------------------------------------------------------ updates that have a place
-  pub placed-record : (k : ℕ) (r : Record) → 1 ≤ k → k ≤ t .clients → RecordFacts t r → Placed t (setRecord k r)
-  placed-record k r lo hi x = (lo, hi, x .few)
+-- ------------------------------------------------------------------ updates that have a place
+pub placed-record : {t : Table} {k : ℕ} {r : Record} → 1 ≤ k → k ≤ t .clients → RecordFacts t r → Placed t (setRecord k r)
+placed-record lo hi x = (lo, hi, x .few)
 
-  pub placed-header : (f : ℕ) (h : Header) → IsFile t f → MapFacts t f (h .map) → Placed t (setHeader f h)
-  placed-header f h i x = (i, x .size, omega (arith, file-facts t (l .table) f i .few))
+pub placed-header : {t : Table} {f : ℕ} (h : Header) → TableFacts t → IsFile t f → MapFacts t f (h .map) → Placed t (setHeader f h)
+placed-header h facts i x = (i, x .size, omega (arith, file-facts facts _ i .few))
