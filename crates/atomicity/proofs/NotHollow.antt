@@ -59,7 +59,8 @@ call-steady : (v : Volume) (s : Session) → Steady v s → (c : Call) (budget :
 call-steady v s h c budget = call-case (λ (x : After). Steady (x .volume) (x .session)) v s c budget (λ n e. h) ended
     (λ e. new-steady _ (prefix-sound v (h .volume) (lawful-along v s c e) budget))
   where
-    ended : first (tests (sound v) (view v) s c) ≡ 0 → Steady (stored v (allStores (view v .table) (plan (view v) s c))) (sessionAfter s c)
+    ended : first (tests (sound v) (view v) s c) ≡ 0
+        → Steady (stored v (allStores (view v .table) (plan (view v) s c))) (sessionAfter s c)
     ended e =
         let along = lawful-along v s c e in
         record {

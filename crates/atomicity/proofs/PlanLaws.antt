@@ -70,7 +70,8 @@ module _ (a₀ : View) (s : Session) (k j : ℕ) (laws : Lawful (a₀ .table) a�
       facts : HeaderFacts (a₀ .table) (a .records) f (decidedHeader a₀ f 0)
       facts = record { map = decided-fits laws f file; holder = λ n. absurd (n refl) }
 
-      still : (g : ℕ) → IsFile (a₀ .table) g → changed a (setHeader f (decidedHeader a₀ f 0)) .headers g .holder ≡ j → member g fs ≡ true
+      still : (g : ℕ) → IsFile (a₀ .table) g → changed a (setHeader f (decidedHeader a₀ f 0)) .headers g .holder ≡ j
+          → member g fs ≡ true
       still g i = if-equal (λ (h : Header). h .holder ≡ j → member g fs ≡ true) g f (decidedHeader a₀ f 0) (a .headers g)
           (λ e q. absurd (omega arith)) (λ n q. or-right (eqb g f) (member g fs) (left g i q) (ne-eqb g f n))
 

@@ -212,7 +212,8 @@ module _ (a : View) (s : Session) (m : Model) (h : Faithful a s m) where
     unfolding plan
     abort-outcome = record {
       cuts = prefix-pages m (h .pages) along;
-      ends = λ n. ended _ (withPending m k noPending) (λ j. refl) (λ j o. along-end along .others j o .pending) (end-pages m (h .pages) along);
+      ends = λ n. ended _ (withPending m k noPending) (λ j. refl) (λ j o. along-end along .others j o .pending)
+          (end-pages m (h .pages) along);
     }
       where
         along : KeptAlong a s k a (recovery false a k)

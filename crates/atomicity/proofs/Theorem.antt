@@ -56,7 +56,11 @@ agrees r (reads crash k f p ∷ xs) h =
 
 -- A volume with the decided content that it has, and a new session.
 abbrev pub startedAs : Volume → Run
-startedAs v = record { volume = v; session = newSession; model = record { pages = decidedContent (view v); pending = λ k. noPending } }
+startedAs v = record {
+  volume = v;
+  session = newSession;
+  model = record { pages = decidedContent (view v); pending = λ k. noPending };
+}
 
 pub agrees-from : (v : Volume) (steps : List Step) → Agrees (startedAs v) steps
 agrees-from v steps = agrees (startedAs v) steps (new-matches (view v) _ (λ f p i lt. refl))
@@ -66,7 +70,8 @@ agrees-from v steps = agrees (startedAs v) steps (new-matches (view v) _ (λ f p
 new-content : (t : Table) → TableFacts t → (f p : ℕ) → IsFile t f → p < fileAt t f .pages
     → decidedContent (view (newVolume t)) f p ≡ replicate 256 0
 new-content t facts f p i lt =
-    ap (λ (m : List ℕ). a .slots f (getD m p 0)) (unheld-map a f (ap (λ (h : Header). h .holder) header) ∙ ap (λ (h : Header). h .map) header)
+    ap (λ (m : List ℕ). a .slots f (getD m p 0)) (unheld-map a f (ap (λ (h : Header). h .holder) header))
+    ∙ ap (λ (h : Header). a .slots f (getD (h .map) p 0)) header
     ∙ rw (from-at (fileAt t f .pages) 0 p lt) (new-slot t facts f (0 + p) i (omega (arith, file-facts facts f i .room)))
   where
     a : View

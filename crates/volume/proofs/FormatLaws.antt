@@ -78,7 +78,8 @@ record NewFile (w : Bytes) (h : ℕ) (x : File) : Type 0 where
   header : sector w h ≡ encodeHeader x (newHeader x)
   slots : (r : ℕ) → r < x .slots → sector w (h + 1 + r) ≡ replicate 256 0
 
-module _ (x : File) (xs : List File) (w z : Bytes) (h : ℕ) (fits : fileFits x ≡ true) (e : drop (256 * h) w ≡ newFiles (x ∷ xs) ++ z) where
+module _ (x : File) (xs : List File) (w z : Bytes) (h : ℕ) (fits : fileFits x ≡ true)
+    (e : drop (256 * h) w ≡ newFiles (x ∷ xs) ++ z) where
   parts : drop (256 * h) w ≡ encodeHeader x (newHeader x) ++ (zeros (256 * x .slots) ++ (newFiles xs ++ z))
   unfolding newFiles
   parts = e ∙ simp append-assoc
@@ -108,15 +109,15 @@ unfolding sectorAfter
 file-in [] w z h n fit e lt = absurd (not-suc-le-zero lt)
 file-in (x ∷ xs) w z h zero fit e lt = first-file x xs w z h (and-left (fileFits x) _ fit) e
 file-in (x ∷ xs) w z h (suc n) fit e lt =
-    file-in xs w z (h + 1 + x .slots) n (and-right (fileFits x) _ fit) (behind-file x xs w z h (and-left (fileFits x) _ fit) e) (le-of-suc-le-suc lt)
+    file-in xs w z (h + 1 + x .slots) n (and-right (fileFits x) _ fit)
+    (behind-file x xs w z h (and-left (fileFits x) _ fit) e) (le-of-suc-le-suc lt)
 
 files-length : (xs : List File) (h : ℕ) → every fileFits xs ≡ true → 256 * h + length (newFiles xs) ≡ 256 * sectorAfter h xs
 unfolding newFiles sectorAfter
 files-length [] h e = omega arith
 files-length (x ∷ xs) h e =
-    let q : length (newFiles (x ∷ xs)) ≡ 256 + (256 * x .slots + length (newFiles xs)) =
-    length-append (encodeHeader x (newHeader x)) (zeros (256 * x .slots) ++ newFiles xs)
-    ∙ rw (new-header-length x (and-left (fileFits x) _ e), length-append (zeros (256 * x .slots)) (newFiles xs), length-replicate {A = ℕ} (256 * x .slots) 0) in
+    let l : length (encodeHeader x (newHeader x)) ≡ 256 = new-header-length x (and-left (fileFits x) _ e) in
+    let q : length (newFiles (x ∷ xs)) ≡ 256 + (256 * x .slots + length (newFiles xs)) = simp (length-append, length-replicate, l) in
     omega (arith, q, files-length xs (h + 1 + x .slots) (and-right (fileFits x) _ e))
 
 -- ------------------------------------------------------------------ the new volume
@@ -159,7 +160,8 @@ module _ (t : Table) (facts : TableFacts t) where
 
   new-length : length (newVolume t) ≡ 256 * t .sectors
   unfolding newVolume records
-  new-length = simp (length-append, length-replicate, table-long) (omega (arith, files-length (t .files) (t .clients + 1) (facts .fit), records-long, facts .ends))
+  new-length = simp (length-append, length-replicate, table-long)
+      (omega (arith, files-length (t .files) (t .clients + 1) (facts .fit), records-long, facts .ends))
 
   -- ------------------------------------------------------------------ its view
   pub new-table : view (newVolume t) .table ≡ t
@@ -235,11 +237,13 @@ pub record FormatFacts (t : Table) (v : Volume) : Type 0 where
   pub facts : TableFacts t
   pub volume : v ≡ newVolume t
 
-format-by : (n T : ℕ) (l : Bytes) (v : Volume) (i : ℕ) → first (formatTests n T l) ≡ i → formatBy i v (tableFor n T l) .answer ≡ formatDone
+format-by : (n T : ℕ) (l : Bytes) (v : Volume) (i : ℕ) → first (formatTests n T l) ≡ i
+    → formatBy i v (tableFor n T l) .answer ≡ formatDone
     → FormatFacts (tableFor n T l) (formatBy i v (tableFor n T l) .volume)
 format-by n T l v zero e d = record { facts = format-facts n T l e; volume = refl }
 format-by n T l v (suc i) e d = let z : _≡_ {A = ℕ} 0 1 = cc in absurd (not-suc-le-zero {n = 0} (omega arith))
 
-pub format-done : (v : Volume) (T : ℕ) (l : Bytes) → format v T l .answer ≡ formatDone → FormatFacts (tableFor (length v) T l) (format v T l .volume)
+pub format-done : (v : Volume) (T : ℕ) (l : Bytes) → format v T l .answer ≡ formatDone
+    → FormatFacts (tableFor (length v) T l) (format v T l .volume)
 unfolding format
 format-done v T l d = format-by (length v) T l v (first (formatTests (length v) T l)) refl d
