@@ -8,7 +8,7 @@ use mathlib.Core.Logic.{_≢_}
 use mathlib.Core.Option.{Option, none, some}
 use Prim.Native.Nat.{ℕ, zero, suc, _≤_, _<_}
 use native.Mathlib.Omega.{arith}
-use borrow.Author.Tests.{eq-eqb, ne-eqb, le-leb}
+use borrow.Author.Tests.{eq-eqb, ne-eqb, leb-false}
 use lib.Dec.{eqb}
 use lib.ListN.{length, take}
 use Rattle.interface.specs.declared.Session.{Session}
@@ -16,7 +16,7 @@ use Rattle.interface.specs.Answers.{newSession, done, crashed}
 use Rattle.sector.specs.Lists.{if_then_else_}
 use Rattle.sector.specs.Contents.{Bytes, Entry, Record}
 use Rattle.sector.proofs.ListLaws.{no-both}
-use Rattle.sector.proofs.CaseLaws.{by-equal, if-test}
+use Rattle.sector.proofs.CaseLaws.{by-test, by-equal, if-test}
 use Rattle.volume.specs.Places.{fileAt}
 use Rattle.volume.specs.Views.{View, Update, changedBy}
 use Rattle.volume.proofs.PlaceLaws.{IsFile}
@@ -29,7 +29,7 @@ use Rattle.rules.specs.Content.{decidedContent}
 use Rattle.rules.proofs.SessionLaws.{none-active, set-same, set-other, set-marks}
 use Rattle.rules.proofs.AllowedLaws.{Active, Others, MayBegin, MayAct, MayOpen, MayWrite, Allowed}
 use Rattle.rules.proofs.RecoveryLaws.{decidedView}
-use Rattle.atomicity.specs.Model.{noPending, Model, emptied, withPending, withPage, committed, effect}
+use Rattle.atomicity.specs.Model.{noPending, Model, emptied, withPending, withPage, committed, isDeciding, effect}
 use Rattle.atomicity.proofs.KeepLaws.{pendingBy, pendingIn, Keeps, kept-content}
 use Rattle.atomicity.proofs.PlanLaws.{KeptAlong, abort-along, begin-along, begin-opens, open-along}
 use Rattle.atomicity.proofs.WriteLaws.{own-record, new-free, write-along, commit-along}
@@ -114,6 +114,10 @@ own-matches {k} {b = b} {s} {s′} {m′ = m′} h only pages marks =
 pub record Outcome (a : View) (s : Session) (m : Model) (c : Call) : Type 0 where
   pub cuts : (n : ℕ) → PagesMatch (changedBy a (take n (plan a s c))) (effect m c (crashed n))
   pub ends : (n : ℕ) → Matches (changedBy a (plan a s c)) (sessionAfter s c) (effect m c (done n))
+
+-- A commit's first store decides.
+first-decides : (n : ℕ) → isDeciding (crashed (suc n)) ≡ true
+first-decides n = by-test (isDeciding (crashed (suc n))) (λ e. e) (λ e. absurd (omega (arith, leb-false)))
 
 module _ (a : View) (s : Session) (m : Model) (h : Faithful a s m) where
   begin-outcome : (k : ℕ) → MayBegin a s k → Outcome a s m (begin k)
@@ -219,7 +223,7 @@ module _ (a : View) (s : Session) (m : Model) (h : Faithful a s m) where
         along : KeptAlong a s k a (recovery false a k)
         along = abort-along w
 
-    -- The first store decides: from then on the content is that of the decided view, which is the model's after the commit.
+    -- From the first store on the content is that of the decided view, which is the model's after the commit.
     commit-outcome : Outcome a s m (commit k)
     unfolding plan
     commit-outcome = record {
@@ -237,7 +241,7 @@ module _ (a : View) (s : Session) (m : Model) (h : Faithful a s m) where
 
         cuts : (n : ℕ) → PagesMatch (changedBy a (take n (plan a s (commit k)))) (effect m (commit k) (crashed n))
         cuts zero = h .pages
-        cuts (suc n) = rw (le-leb 1 (suc n) (omega arith)) (prefix-pages (committed m k) decided along n)
+        cuts (suc n) = rw (first-decides n) (prefix-pages (committed m k) decided along n)
 
   pub outcome : (c : Call) → Allowed a s c → Outcome a s m c
   outcome (begin k) w = begin-outcome k w

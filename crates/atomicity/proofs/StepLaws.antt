@@ -31,7 +31,7 @@ use Rattle.rules.proofs.CallLaws.{call-case, read-case}
 use Rattle.rules.proofs.SessionLaws.{none-active}
 use Rattle.rules.proofs.AllowedLaws.{Active, MayRead, readable, allowed, allowed-sound}
 use Rattle.rules.proofs.ContentLaws.{decided-slot}
-use Rattle.atomicity.specs.Model.{Model, orElse, shown, emptied, effect, settled, modelCall}
+use Rattle.atomicity.specs.Model.{Pending, Model, orElse, overlaid, shown, emptied, effect, settled, modelCall}
 use Rattle.atomicity.specs.AllOrNone.{ReadAgrees}
 use Rattle.atomicity.proofs.KeepLaws.{bytesFor, pendingIn}
 use Rattle.atomicity.proofs.WriteLaws.{own-record, own-map, plan-lawful}
@@ -97,4 +97,5 @@ read-matches v s m h k f p = read-case (ReadAgrees v m k f p) v s k f p (λ n e.
     same e =
         let w : MayRead (view v) s k f p = readable v s k f p e in
         let x = slot-shown (view v) s m h k f p w (entryFor (view v) k f p) refl in
-        sym (slot-is v f _ (w .file) (x .1)) ∙ x .0 ∙ rw (read-pending (view v) s m h k (w .act .active))
+        sym (slot-is v f _ (w .file) (x .1)) ∙ x .0
+        ∙ ap (λ (l : Pending). overlaid l (m .pages) f p) (sym (read-pending (view v) s m h k (w .act .active)))
