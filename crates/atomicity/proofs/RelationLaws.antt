@@ -110,9 +110,9 @@ own-matches {k} {b = b} {s} {s′} {m′ = m′} h only pages marks =
         })
 
 -- ------------------------------------------------------------------ each call
--- Cut after n stores: what is pending no longer counts, so only the pages are asked for. Done: whatever the count.
+-- Crashed after n stores: what is pending no longer counts, so only the pages are asked for. Done: whatever the count.
 pub record Outcome (a : View) (s : Session) (m : Model) (c : Call) : Type 0 where
-  pub cuts : (n : ℕ) → PagesMatch (changedBy a (take n (plan a s c))) (effect m c (crashed n))
+  pub crashes : (n : ℕ) → PagesMatch (changedBy a (take n (plan a s c))) (effect m c (crashed n))
   pub ends : (n : ℕ) → Matches (changedBy a (plan a s c)) (sessionAfter s c) (effect m c (done n))
 
 -- A commit's first store decides.
@@ -123,7 +123,7 @@ module _ (a : View) (s : Session) (m : Model) (h : Faithful a s m) where
   begin-outcome : (k : ℕ) → MayBegin a s k → Outcome a s m (begin k)
   unfolding plan
   begin-outcome k w = record {
-    cuts = prefix-pages m (h .pages) along;
+    crashes = prefix-pages m (h .pages) along;
     ends = λ n. own-matches h only (end-pages m (h .pages) along) (set-marks s k true (h .marks));
   }
     where
@@ -147,7 +147,7 @@ module _ (a : View) (s : Session) (m : Model) (h : Faithful a s m) where
   open-outcome : (k f : ℕ) → MayOpen a s k f → Outcome a s m (openFile k f)
   unfolding plan
   open-outcome k f w = record {
-    cuts = prefix-pages m (h .pages) along;
+    crashes = prefix-pages m (h .pages) along;
     ends = λ n. own-matches h only (end-pages m (h .pages) along) (h .marks);
   }
     where
@@ -165,7 +165,7 @@ module _ (a : View) (s : Session) (m : Model) (h : Faithful a s m) where
   write-outcome : (k f p : ℕ) (d : Bytes) → MayWrite a s k f p d → Outcome a s m (write k f p d)
   unfolding plan
   write-outcome k f p d w = record {
-    cuts = prefix-pages m (h .pages) along;
+    crashes = prefix-pages m (h .pages) along;
     ends = λ n. own-matches h only (end-pages m (h .pages) along) (h .marks);
   }
     where
@@ -215,7 +215,7 @@ module _ (a : View) (s : Session) (m : Model) (h : Faithful a s m) where
     abort-outcome : Outcome a s m (abort k)
     unfolding plan
     abort-outcome = record {
-      cuts = prefix-pages m (h .pages) along;
+      crashes = prefix-pages m (h .pages) along;
       ends = λ n. ended _ (withPending m k noPending) (λ j. refl) (λ j o. along-end along .others j o .pending)
           (end-pages m (h .pages) along);
     }
@@ -227,7 +227,7 @@ module _ (a : View) (s : Session) (m : Model) (h : Faithful a s m) where
     commit-outcome : Outcome a s m (commit k)
     unfolding plan
     commit-outcome = record {
-      cuts = cuts;
+      crashes = crashes;
       ends = λ n. ended _ (committed m k) (λ j. refl) (λ j o. along-end along .others j o .pending ∙ rw (ne-eqb j k (o .other)))
           (end-pages (committed m k) decided along);
     }
@@ -239,9 +239,9 @@ module _ (a : View) (s : Session) (m : Model) (h : Faithful a s m) where
         decided f p i lt = commit-content w f p i
             ∙ rw (h .pages f p i lt, h .tracked k (w .active .low) (w .active .high) .active (w .active .on))
 
-        cuts : (n : ℕ) → PagesMatch (changedBy a (take n (plan a s (commit k)))) (effect m (commit k) (crashed n))
-        cuts zero = h .pages
-        cuts (suc n) = rw (first-decides n) (prefix-pages (committed m k) decided along n)
+        crashes : (n : ℕ) → PagesMatch (changedBy a (take n (plan a s (commit k)))) (effect m (commit k) (crashed n))
+        crashes zero = h .pages
+        crashes (suc n) = rw (first-decides n) (prefix-pages (committed m k) decided along n)
 
   pub outcome : (c : Call) → Allowed a s c → Outcome a s m c
   outcome (begin k) w = begin-outcome k w

@@ -1,5 +1,5 @@
 -- A step on a volume keeps the relation with the model: a call however it ends, and a read hands back what the model shows.
--- A call's end is one of three: refused, so nothing changes; done or cut, so the view is the one after its updates or after
+-- A call's end is one of three: refused, so nothing changes; done or crashed, so the view is the one after its updates or after
 -- a prefix of them, of which the laws over views speak.
 use mathlib.Core.Path.{_≡_, refl, sym, ap, _∙_}
 use mathlib.Core.Bool.{false}
@@ -57,7 +57,7 @@ call-matches v s m h c budget =
     call-case (λ (x : After). Matches (view (x .volume)) (x .session) (settled (x .answer) (effect m′ c (x .answer)))) v s c budget
     (λ n e. refused-matches (view v) s m′ clear c (suc n))
     (λ e. rw (along-view v (allowed-sound v s c e) (lawful-along v s c e)) (out e .ends _))
-    (λ e. rw (prefix-view v (allowed-sound v s c e) (lawful-along v s c e) budget) (new-matches _ _ (out e .cuts budget)))
+    (λ e. rw (prefix-view v (allowed-sound v s c e) (lawful-along v s c e) budget) (new-matches _ _ (out e .crashes budget)))
   where
     m′ : Model
     m′ = if noneActive s then emptied m else m
