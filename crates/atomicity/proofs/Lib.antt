@@ -3,6 +3,7 @@ pub mod PlanLaws
 pub mod WriteLaws
 pub mod PendingLaws
 pub mod RelationLaws
-pub mod CallLaws
+pub mod StepLaws
 pub mod Theorem
 pub mod ReturnLaws
+pub mod NotHollow

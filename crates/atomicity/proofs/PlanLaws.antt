@@ -7,26 +7,26 @@ use mathlib.Core.List.{List, [], _∷_, _++_, append-assoc}
 use mathlib.Core.Logic.{_≢_}
 use Prim.Native.Nat.{ℕ, _≤_}
 use native.Mathlib.Omega.{arith}
-use borrow.Author.Tests.{eqb-true, eq-eqb, ne-eqb, not-false}
+use borrow.Author.Tests.{eqb-true, ne-eqb, not-false}
 use lib.Dec.{eqb}
 use Rattle.interface.specs.declared.Session.{Session}
 use Rattle.sector.specs.Lists.{if_then_else_, every, member}
-use Rattle.sector.specs.Contents.{Table, Record, Header, idleRecord, openRecord}
+use Rattle.sector.specs.Contents.{Table, Header, idleRecord, openRecord}
 use Rattle.sector.proofs.ListLaws.{and-left, and-right, or-right, no-both}
-use Rattle.sector.proofs.CaseLaws.{by-equal, if-test, if-equal}
+use Rattle.sector.proofs.CaseLaws.{if-test, if-equal}
 use Rattle.volume.specs.Places.{isFile}
-use Rattle.volume.specs.Views.{View, Update, setRecord, setHeader, changed}
+use Rattle.volume.specs.Views.{View, Update, setRecord, setHeader, changed, changedBy}
 use Rattle.volume.proofs.PlaceLaws.{IsFile, file-of}
 use Rattle.volume.proofs.LawfulLaws.{HeaderFacts, Lawful, idle-facts, open-facts, placed-record, placed-header}
-use Rattle.volume.proofs.AlongLaws.{Along, last, step}
+use Rattle.volume.proofs.AlongLaws.{Along, last, step, last-record}
 use Rattle.rules.specs.Sessions.{isActive, isOrphaned}
 use Rattle.rules.specs.Recovery.{isDecided, mapAfter, heldFiles, recovery}
 use Rattle.rules.specs.Plans.{beginPlan, openPlan}
 use Rattle.rules.specs.Content.{decidedMap}
 use Rattle.rules.proofs.AllowedLaws.{Others, Running, MayBegin, MayAct, MayOpen, running-undecided, running-foreign}
 use Rattle.rules.proofs.ContentLaws.{decidedHeader, unheld-map, decided-fits}
-use Rattle.rules.proofs.RecoveryLaws.{held-files, held-member, freeing, recovery-is}
-use Rattle.atomicity.proofs.KeepLaws.{Left, Keeps, keeps-self, keep-header, keep-record}
+use Rattle.rules.proofs.RecoveryLaws.{held-files, held-member, freeing, map-after, recovery-is}
+use Rattle.atomicity.proofs.KeepLaws.{Keeps, keeps-self, keep-header, keep-record}
 
 -- Every prefix of the updates, made on view a, keeps what a₀ has.
 abbrev pub KeptAlong : View → Session → ℕ → View → List Update → Type 0
@@ -46,17 +46,17 @@ module _ (a₀ : View) (s : Session) (k j : ℕ) (laws : Lawful (a₀ .table) a�
       → ((g : ℕ) → IsFile (a₀ .table) g → a .headers g .holder ≡ j → member g fs ≡ true) → Keeps a₀ s k a
       → KeptAlong a₀ s k a (freeing a₀ fs ++ (setRecord j idleRecord ∷ ys))
   freeing-along [] a held left kept =
-      step kept (placed-record (a₀ .table) a₀ laws j idleRecord lo hi (idle-facts (a₀ .table))) (after _ idled unnamed)
+      step kept (placed-record lo hi (idle-facts (a₀ .table))) (after _ idled unnamed)
     where
       unnamed : Unnamed (a₀ .table) j a
       unnamed f i e = false≢true (left f i e)
 
       idled : Keeps a₀ s k (changed a (setRecord j idleRecord))
-      idled = keep-record a₀ s k a kept j idleRecord (idle-facts (a₀ .table)) (λ f i e. absurd (unnamed f i e)) ne
+      idled = keep-record kept j idleRecord (idle-facts (a₀ .table)) (λ f i e. absurd (unnamed f i e)) ne
   freeing-along (f ∷ fs) a held left kept =
-      step kept (placed-header (a₀ .table) a₀ laws f (decidedHeader a₀ f 0) file (decided-fits a₀ laws f file))
+      step kept (placed-header (decidedHeader a₀ f 0) (laws .table) file (decided-fits laws f file))
       (freeing-along fs _ (and-right (isFile (a₀ .table) f && eqb (a₀ .headers f .holder) j) _ held) still
-      (keep-header a₀ s k a kept f 0 facts refl (λ i o q. ne i o (sym q ∙ holder))))
+      (keep-header kept f 0 facts refl (λ i o q. ne i o (sym q ∙ holder))))
     where
       this : (isFile (a₀ .table) f && eqb (a₀ .headers f .holder) j) ≡ true
       this = and-left (isFile (a₀ .table) f && eqb (a₀ .headers f .holder) j) _ held
@@ -68,28 +68,29 @@ module _ (a₀ : View) (s : Session) (k j : ℕ) (laws : Lawful (a₀ .table) a�
       holder = eqb-true _ _ (and-right (isFile (a₀ .table) f) _ this)
 
       facts : HeaderFacts (a₀ .table) (a .records) f (decidedHeader a₀ f 0)
-      facts = record { map = decided-fits a₀ laws f file; holder = λ n. absurd (n refl) }
+      facts = record { map = decided-fits laws f file; holder = λ n. absurd (n refl) }
 
-      still : (g : ℕ) → IsFile (a₀ .table) g → changed a (setHeader f (decidedHeader a₀ f 0)) .headers g .holder ≡ j → member g fs ≡ true
+      still : (g : ℕ) → IsFile (a₀ .table) g → changed a (setHeader f (decidedHeader a₀ f 0)) .headers g .holder ≡ j
+          → member g fs ≡ true
       still g i = if-equal (λ (h : Header). h .holder ≡ j → member g fs ≡ true) g f (decidedHeader a₀ f 0) (a .headers g)
           (λ e q. absurd (omega arith)) (λ n q. or-right (eqb g f) (member g fs) (left g i q) (ne-eqb g f n))
 
   recovers : KeptAlong a₀ s k a₀ (freeing a₀ (heldFiles a₀ j) ++ (setRecord j idleRecord ∷ ys))
-  recovers = freeing-along (heldFiles a₀ j) a₀ (held-files a₀ j) (held-member a₀ j) (keeps-self a₀ s k laws)
+  recovers = freeing-along (heldFiles a₀ j) a₀ (held-files a₀ j) (held-member a₀ j) (keeps-self laws)
 
   pub recovery-then : KeptAlong a₀ s k a₀ (recovery (isDecided a₀ j) a₀ j ++ ys)
   recovery-then = rw (recovery-is a₀ j lo, append-assoc (freeing a₀ (heldFiles a₀ j)) (setRecord j idleRecord ∷ []) ys) recovers
 
-pub recovery-along : (a₀ : View) (s : Session) (k : ℕ) → Lawful (a₀ .table) a₀ → 1 ≤ k → k ≤ a₀ .table .clients
+pub recovery-along : {a₀ : View} (s : Session) (k : ℕ) → Lawful (a₀ .table) a₀ → 1 ≤ k → k ≤ a₀ .table .clients
     → KeptAlong a₀ s k a₀ (recovery (isDecided a₀ k) a₀ k)
-recovery-along a₀ s k laws lo hi =
+recovery-along {a₀} s k laws lo hi =
     rw (recovery-is a₀ k lo) (recovers a₀ s k k laws lo hi (λ i o. o .other) [] (λ a kept unnamed. last kept))
 
-module _ (a : View) (s : Session) (k : ℕ) where
+module _ {a : View} {s : Session} {k : ℕ} where
   -- ------------------------------------------------------------------ abort
   pub abort-along : MayAct a s k → KeptAlong a s k a (recovery false a k)
-  abort-along w = subst (λ (redo : Bool). KeptAlong a s k a (recovery redo a k)) (running-undecided a k (w .running))
-      (recovery-along a s k (w .ready .laws) (w .active .low) (w .running .client))
+  abort-along w = subst (λ (redo : Bool). KeptAlong a s k a (recovery redo a k)) (running-undecided (w .running))
+      (recovery-along s k (w .ready .laws) (w .active .low) (w .running .client))
 
   -- ------------------------------------------------------------------ begin
   pub begin-along : MayBegin a s k → KeptAlong a s k a (beginPlan a s k)
@@ -97,25 +98,25 @@ module _ (a : View) (s : Session) (k : ℕ) where
   begin-along w =
       if-test (λ (xs : List Update). KeptAlong a s k a (xs ++ (setRecord k openRecord ∷ []))) (isOrphaned a s k) _ []
       (λ e. recovery-then a s k k laws (w .low) (w .high) (λ i o. o .other) (setRecord k openRecord ∷ []) opened)
-      (λ e. opened a (keeps-self a s k laws) (idle-unnamed e))
+      (λ e. opened a (keeps-self laws) (idle-unnamed e))
     where
       laws : Lawful (a .table) a
       laws = w .ready .laws
 
       opened : (b : View) → Keeps a s k b → Unnamed (a .table) k b → KeptAlong a s k b (setRecord k openRecord ∷ [])
       opened b kept unnamed =
-          step kept (placed-record (a .table) a laws k openRecord (w .low) (w .high) (open-facts (a .table)))
-          (last (keep-record a s k b kept k openRecord (open-facts (a .table)) (λ f i e. absurd (unnamed f i e)) (λ i o. o .other)))
+          step kept (placed-record (w .low) (w .high) (open-facts (a .table)))
+          (last (keep-record kept k openRecord (open-facts (a .table)) (λ f i e. absurd (unnamed f i e)) (λ i o. o .other)))
 
       idle-unnamed : isOrphaned a s k ≡ false → Unnamed (a .table) k a
       idle-unnamed e f i q =
           let idle : eqb (a .records k .state) 0 ≡ true = not-false _ (rw (w .off) at e) in
-          let live : eqb (a .records (a .headers f .holder) .state) 0 ≡ false = laws .headers f i .holder (rw q (omega (arith, w .low))) .live in
+          let live = laws .headers f i .holder (rw q (omega (arith, w .low))) .live in
           no-both _ idle (rw q at live)
 
   -- ------------------------------------------------------------------ open
   -- All active clients are left alone, k too: the others are those that aren't 0.
-  module _ (f : ℕ) (w : MayOpen a s k f) (foreign : a .headers f .holder ≢ k) where
+  module _ {f : ℕ} (w : MayOpen a s k f) (foreign : a .headers f .holder ≢ k) where
     unheld : (i : ℕ) → Others s 0 i → a .headers f .holder ≢ i
     unheld i o q =
         let some : eqb (a .headers f .holder) 0 ≡ false = rw q (ne-eqb i 0 (omega (arith, o .active .low))) in
@@ -124,8 +125,8 @@ module _ (a : View) (s : Session) (k : ℕ) where
 
     takes : (b : View) → Keeps a s 0 b → KeptAlong a s 0 b (setHeader f (decidedHeader a f k) ∷ [])
     takes b kept =
-        step kept (placed-header (a .table) a laws f (decidedHeader a f k) (w .file) (decided-fits a laws f (w .file)))
-        (last (keep-header a s 0 b kept f k facts undecided unheld))
+        step kept (placed-header (decidedHeader a f k) (laws .table) (w .file) (decided-fits laws f (w .file)))
+        (last (keep-header kept f k facts undecided unheld))
       where
         laws : Lawful (a .table) a
         laws = w .act .ready .laws
@@ -134,41 +135,42 @@ module _ (a : View) (s : Session) (k : ℕ) where
         run = w .act .running
 
         own : b .records k ≡ a .records k
-        own = kept .others k (record { active = w .act .active; other = omega (arith, w .act .active .low) }) .entries
+        own = kept .others k (record { active = w .act .active; other = omega (arith, w .act .active .low) }) .same
 
         undecided : (not (eqb k 0) && isDecided b k) ≡ false
-        undecided = rw (own, ne-eqb k 0 (omega (arith, w .act .active .low))) (running-undecided a k run)
+        undecided = rw (own, ne-eqb k 0 (omega (arith, w .act .active .low))) (running-undecided run)
 
         facts : HeaderFacts (a .table) (b .records) f (decidedHeader a f k)
         facts = record {
-          map = decided-fits a laws f (w .file);
+          map = decided-fits laws f (w .file);
           holder = λ n. record {
             client = run .client;
             live = rw (own, run .state);
-            away = rw own (running-foreign a k f run foreign (λ e. member (e .slot) (decidedMap a f)));
+            away = rw own (running-foreign run f foreign (λ e. member (e .slot) (decidedMap a f)));
           };
         }
 
-  pub open-along : (f : ℕ) → MayOpen a s k f → KeptAlong a s 0 a (openPlan a k f)
+  pub open-along : {f : ℕ} → MayOpen a s k f → KeptAlong a s 0 a (openPlan a k f)
   unfolding openPlan
-  open-along f w =
+  open-along {f} w =
       if-equal (KeptAlong a s 0 a) (a .headers f .holder) k [] _ (λ e. last self)
-      (λ n. if-equal (KeptAlong a s 0 a) (a .headers f .holder) 0 _ _ (unowned n) (orphaned n))
+      (λ n. if-equal (KeptAlong a s 0 a) (a .headers f .holder) 0 _ _
+      (λ e. rw (sym (unheld-map a f e)) (takes w n a self)) (λ z. orphaned (a .headers f .holder) refl n (omega arith)))
     where
       laws : Lawful (a .table) a
       laws = w .act .ready .laws
 
       self : Keeps a s 0 a
-      self = keeps-self a s 0 laws
+      self = keeps-self laws
 
-      unowned : a .headers f .holder ≢ k → a .headers f .holder ≡ 0 → KeptAlong a s 0 a (setHeader f (record { holder = k; map = a .headers f .map }) ∷ [])
-      unowned n e =
-          rw (sym (unheld-map a f e)) (takes f w n a self)
+      orphaned : (h : ℕ) → a .headers f .holder ≡ h → a .headers f .holder ≢ k → 1 ≤ h → KeptAlong a s 0 a
+          (recovery (isDecided a h) a h ++ (setHeader f (record { holder = k; map = mapAfter (isDecided a h) a h f }) ∷ []))
+      orphaned h e n pos =
+          let hi : h ≤ a .table .clients = rw e at (laws .headers f (w .file) .holder (omega arith) .client) in
+          rw (map-after a h f pos e) (recovery-then a s 0 h laws pos hi (λ i o x. unheld w n i o (e ∙ sym x)) _
+          (λ b kept unnamed. takes w n b kept))
 
-      orphaned : a .headers f .holder ≢ k → a .headers f .holder ≢ 0
-          → KeptAlong a s 0 a (recovery (isDecided a (a .headers f .holder)) a (a .headers f .holder)
-          ++ (setHeader f (record { holder = k; map = mapAfter (isDecided a (a .headers f .holder)) a (a .headers f .holder) f }) ∷ []))
-      orphaned n z =
-          let q : mapAfter (isDecided a (a .headers f .holder)) a (a .headers f .holder) f ≡ decidedMap a f = rw (ne-eqb _ 0 z) in
-          rw q (recovery-then a s 0 (a .headers f .holder) laws (omega arith) (laws .headers f (w .file) .holder z .client)
-          (λ i o x. unheld f w n i o (sym x)) _ (λ b kept unnamed. takes f w n b kept))
+-- After begin the record is open and has no entries.
+pub begin-opens : (a : View) (s : Session) (k : ℕ) → changedBy a (beginPlan a s k) .records k ≡ openRecord
+unfolding beginPlan
+begin-opens a s k = last-record (if isOrphaned a s k then recovery (isDecided a k) a k else []) a k openRecord

@@ -2,122 +2,35 @@
 -- what the model says, and every read that isn't refused hands back what the model shows to that client.
 -- It holds from any volume, session and model that are related, so from any volume with the content that it has, and from a
 -- formatted one with every page zero. Each step keeps the relation, and the relation has the claim in it.
-use mathlib.Core.Path.{_≡_, refl, sym, ap, _∙_}
+use mathlib.Core.Path.{_≡_, refl, ap, _∙_}
 use mathlib.Core.Bool.{Bool, true, false}
 use mathlib.Core.List.{List, [], _∷_}
-use mathlib.Core.Option.{Option, none, some}
-use Prim.Native.Nat.{ℕ, zero, suc, _+_, _<_}
+use Prim.Native.Nat.{ℕ, _+_, _<_}
 use native.Mathlib.Omega.{arith}
 use lib.ListN.{length, getD, replicate}
 use Rattle.interface.specs.declared.Session.{Session}
-use Rattle.interface.specs.Answers.{newSession, done, crashed}
-use Rattle.sector.specs.Lists.{if_then_else_, first}
-use Rattle.sector.specs.Contents.{Bytes, File, Table, Entry, Header}
-use Rattle.sector.specs.Sectors.{Volume, sector}
-use Rattle.sector.proofs.ListLaws.{no-both}
-use Rattle.sector.proofs.CaseLaws.{by-test}
+use Rattle.interface.specs.Answers.{newSession}
+use Rattle.sector.specs.Contents.{Table, Header}
+use Rattle.sector.specs.Sectors.{Volume}
 use Rattle.sector.proofs.SearchLaws.{from-at}
-use Rattle.volume.specs.Places.{fileAt, slotPlace, sectorOf}
-use Rattle.volume.specs.Views.{View, Update}
+use Rattle.volume.specs.Places.{fileAt}
+use Rattle.volume.specs.Views.{View}
 use Rattle.volume.specs.Volumes.{view}
-use Rattle.volume.specs.Sound.{sound}
 use Rattle.volume.specs.Format.{tableFor, newVolume, format}
-use Rattle.volume.specs.Stores.{Store, stored, allStores}
 use Rattle.volume.proofs.PlaceLaws.{IsFile}
-use Rattle.volume.proofs.StoreLaws.{Shaped, sound-shaped, AllPlaced, view-stores, view-prefix}
-use Rattle.volume.proofs.AccessLaws.{slot-is}
-use Rattle.volume.proofs.LawfulLaws.{TableFacts, EntryFacts, file-facts, entry-facts}
+use Rattle.volume.proofs.LawfulLaws.{TableFacts, file-facts}
 use Rattle.volume.proofs.FormatLaws.{newHeader, new-table, new-header, new-slot, FormatFacts, format-done}
-use Rattle.volume.proofs.AlongLaws.{along-placed}
-use Rattle.rules.specs.Sessions.{noneActive}
-use Rattle.rules.specs.Plans.{Call, begin, openFile, write, commit, abort, entryFor, slotFor, plan, sessionAfter}
-use Rattle.rules.specs.Refusals.{tests, readTests}
-use Rattle.rules.specs.Calls.{After, executed, callBy, call, readBy, read}
-use Rattle.rules.specs.Content.{decidedMap, decidedContent}
-use Rattle.rules.proofs.ExecutedLaws.{executed-case}
-use Rattle.rules.proofs.SessionLaws.{none-active}
-use Rattle.rules.proofs.AllowedLaws.{Active, MayAct, MayRead, Allowed, readable, allowed, allowed-sound}
-use Rattle.rules.proofs.ContentLaws.{unheld-map, decided-slot}
-use Rattle.atomicity.specs.Model.{noPending, Model, newModel, orElse, shown, effect, settled, modelCall}
+use Rattle.rules.specs.Content.{decidedContent}
+use Rattle.rules.proofs.ContentLaws.{unheld-map}
+use Rattle.atomicity.specs.Model.{noPending, Model, newModel}
 use Rattle.atomicity.specs.Runs.{Step, calls, reads, Run, started, given, stepped}
-use Rattle.atomicity.specs.AllOrNone.{ContentAgrees, ReadAgrees, Agrees, AllOrNone}
-use Rattle.atomicity.proofs.KeepLaws.{bytesFor, pendingIn}
-use Rattle.atomicity.proofs.WriteLaws.{own-record, own-map}
-use Rattle.atomicity.proofs.RelationLaws.{Matches, Faithful, faithful, faithful-matches, new-matches, Outcome, outcome}
-use Rattle.atomicity.proofs.CallLaws.{plan-lawful}
+use Rattle.atomicity.specs.AllOrNone.{ContentAgrees, Agrees, AllOrNone}
+use Rattle.atomicity.proofs.RelationLaws.{Matches, new-matches}
+use Rattle.atomicity.proofs.StepLaws.{call-matches, read-matches}
 
 -- Volume and session are related to the model.
 abbrev pub Related : Run → Type 0
 Related r = Matches (view (r .volume)) (r .session) (r .model)
-
--- ------------------------------------------------------------------ a call
--- What a call leaves, related to the model after it.
-abbrev MatchesAfter : Model → Call → After → Type 0
-MatchesAfter m c x = Matches (view (x .volume)) (x .session) (settled (x .answer) (effect m c (x .answer)))
-
--- By the number of the refusal, 0 for none.
-called-matches : (v : Volume) (s : Session) (m : Model) → Faithful (view v) s m → (c : Call) (budget n : ℕ)
-    → first (tests (sound v) (view v) s c) ≡ n → MatchesAfter m c (callBy n v s c budget)
-called-matches v s m h (begin k) budget (suc n) e = faithful-matches (view v) s m h
-called-matches v s m h (openFile k f) budget (suc n) e = faithful-matches (view v) s m h
-called-matches v s m h (write k f p d) budget (suc n) e = faithful-matches (view v) s m h
-called-matches v s m h (commit k) budget (suc n) e = faithful-matches (view v) s m h
-called-matches v s m h (abort k) budget (suc n) e = faithful-matches (view v) s m h
-called-matches v s m h c budget zero e =
-    executed-case (MatchesAfter m c) v s c budget (allStores (view v .table) updates)
-    (rw (view-stores v updates shaped placed) (o .ends _))
-    (rw (view-prefix v updates budget shaped placed) (new-matches _ _ (o .cuts budget)))
-  where
-    updates : List Update
-    updates = plan (view v) s c
-
-    w : Allowed (view v) s c
-    w = allowed v s c e
-
-    o : Outcome (view v) s m c
-    o = outcome (view v) s m h c w
-
-    shaped : Shaped (view v .table) v
-    shaped = sound-shaped v (allowed-sound v s c e)
-
-    placed : AllPlaced (view v .table) (plan (view v) s c)
-    placed = along-placed (plan-lawful (view v) s c w)
-
-call-matches : (v : Volume) (s : Session) (m : Model) → Matches (view v) s m → (c : Call) (budget : ℕ)
-    → let x = call v s c budget in Matches (view (x .volume)) (x .session) (modelCall m s c (x .answer))
-unfolding call modelCall
-call-matches v s m h c budget =
-    called-matches v s _ (faithful (view v) s m h) c budget (first (tests (sound v) (view v) s c)) refl
-
--- ------------------------------------------------------------------ a read
--- The slot that a read finds is one of the file's, and has what the model shows.
-slot-shown : (a : View) (s : Session) (m : Model) → Matches a s m → (k f p : ℕ) → MayRead a s k f p → (o : Option Entry) → entryFor a k f p ≡ o
-    → (a .slots f (slotFor a f p o) ≡ orElse (bytesFor (a .slots) o) (m .pages f p)) × (slotFor a f p o < fileAt (a .table) f .slots)
-slot-shown a s m h k f p w none e =
-    let q : decidedMap a f ≡ a .headers f .map = own-map a s k (w .act) f (w .holder) in (
-      sym (ap (λ (l : List ℕ). a .slots f (getD l p 0)) q) ∙ h .pages f p (w .file) (w .page),
-      rw q at (decided-slot a (w .act .ready .laws) f p (w .file) (w .page)),
-    )
-slot-shown a s m h k f p w (some e) found =
-    let x : EntryFacts (a .table) f p e = entry-facts (a .table) (a .records k) (own-record a s k (w .act)) f p e found in
-    (rw (x .file), x .slot)
-
--- A client that reads is active, so the model's pending pages are those of its record.
-read-pending : (a : View) (s : Session) (m : Model) → Matches a s m → (k : ℕ) → Active s k → m .pending k ≡ pendingIn a k
-read-pending a s m h k w = h .tracked some k (w .low) (w .high) .active (w .on)
-  where
-    some : noneActive s ≡ false
-    some = by-test (noneActive s) (λ e. no-both _ (w .on) (none-active s k e)) (λ e. e)
-
-read-matches : (v : Volume) (s : Session) (m : Model) → Matches (view v) s m → (k f p n : ℕ)
-    → first (readTests (sound v) (view v) s k f p) ≡ n → ReadAgrees v m k f p (readBy n (view v) k f p)
-read-matches v s m h k f p (suc n) e = tt
-read-matches v s m h k f p zero e =
-    let w : MayRead (view v) s k f p = readable v s k f p e in
-    let x = slot-shown (view v) s m h k f p w (entryFor (view v) k f p) refl in
-    let y : sector v (sectorOf (view v .table) (slotPlace f (slotFor (view v) f p (entryFor (view v) k f p)))) ≡ shown m k f p =
-    sym (slot-is v f _ (w .file) (x .1)) ∙ x .0 ∙ rw (read-pending (view v) s m h k (w .act .active)) in
-    (y, y)
 
 -- ------------------------------------------------------------------ every list of steps
 given-matches : (a : View) (s : Session) (m : Model) (crash : Bool) → Matches a s m → Matches a (given crash s) m
@@ -129,7 +42,7 @@ content-agrees r h f p lo hi lt = h .pages f p (record { low = lo; high = hi }) 
 
 -- From any start that is related.
 pub agrees : (r : Run) (steps : List Step) → Related r → Agrees r steps
-unfolding stepped read
+unfolding stepped
 agrees r [] h = content-agrees r h
 agrees r (calls crash c budget ∷ xs) h =
     let g : Matches (view (r .volume)) (given crash (r .session)) (r .model) = given-matches _ _ _ crash h in (
@@ -139,11 +52,15 @@ agrees r (calls crash c budget ∷ xs) h =
     )
 agrees r (reads crash k f p ∷ xs) h =
     let g : Matches (view (r .volume)) (given crash (r .session)) (r .model) = given-matches _ _ _ crash h in
-    (content-agrees r h, read-matches (r .volume) (given crash (r .session)) (r .model) g k f p _ refl, agrees r xs h)
+    (content-agrees r h, read-matches (r .volume) (given crash (r .session)) (r .model) g k f p, agrees r xs h)
 
 -- A volume with the decided content that it has, and a new session.
 abbrev pub startedAs : Volume → Run
-startedAs v = record { volume = v; session = newSession; model = record { pages = decidedContent (view v); pending = λ k. noPending } }
+startedAs v = record {
+  volume = v;
+  session = newSession;
+  model = record { pages = decidedContent (view v); pending = λ k. noPending };
+}
 
 pub agrees-from : (v : Volume) (steps : List Step) → Agrees (startedAs v) steps
 agrees-from v steps = agrees (startedAs v) steps (new-matches (view v) _ (λ f p i lt. refl))
@@ -153,8 +70,9 @@ agrees-from v steps = agrees (startedAs v) steps (new-matches (view v) _ (λ f p
 new-content : (t : Table) → TableFacts t → (f p : ℕ) → IsFile t f → p < fileAt t f .pages
     → decidedContent (view (newVolume t)) f p ≡ replicate 256 0
 new-content t facts f p i lt =
-    ap (λ (m : List ℕ). a .slots f (getD m p 0)) (unheld-map a f (ap (λ (h : Header). h .holder) header) ∙ ap (λ (h : Header). h .map) header)
-    ∙ rw (from-at (fileAt t f .pages) 0 p lt) (new-slot t facts f (0 + p) i (omega (arith, file-facts t facts f i .room)))
+    ap (λ (m : List ℕ). a .slots f (getD m p 0)) (unheld-map a f (ap (λ (h : Header). h .holder) header))
+    ∙ ap (λ (h : Header). a .slots f (getD (h .map) p 0)) header
+    ∙ rw (from-at (fileAt t f .pages) 0 p lt) (new-slot t facts f (0 + p) i (omega (arith, file-facts facts f i .room)))
   where
     a : View
     a = view (newVolume t)

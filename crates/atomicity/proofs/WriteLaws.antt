@@ -3,74 +3,74 @@
 -- The slot that a write stores in isn't in the file's map, which is its decided map, and the other active clients have no
 -- entry for a file that this one holds. The new entry suits the headers that name the client, since its slot was free.
 use mathlib.Core.Path.{_≡_, refl, sym, _∙_}
-use mathlib.Core.Bool.{Bool, true, false, not, _&&_, _||_}
+use mathlib.Core.Bool.{true, false, not, _&&_}
 use mathlib.Core.List.{List, [], _∷_, _++_}
 use mathlib.Core.Logic.{_≢_}
 use mathlib.Core.Option.{Option, none, some}
-use Prim.Native.Nat.{ℕ, _≤_, _<_}
+use Prim.Native.Nat.{ℕ, _<_}
 use native.Mathlib.Omega.{arith}
 use borrow.Author.Tests.{eqb-false, eq-eqb, ne-eqb, le-leb, lt-ltb, not-true}
 use lib.Dec.{eqb}
 use lib.ListN.{length, length-append}
 use Rattle.interface.specs.declared.Session.{Session}
-use Rattle.sector.specs.Lists.{every, member}
-use Rattle.sector.specs.Contents.{Bytes, File, Table, Entry, Record, Header, decidedRecord, appended}
+use Rattle.sector.specs.Lists.{member}
+use Rattle.sector.specs.Contents.{Bytes, Entry, decidedRecord, appended}
 use Rattle.sector.specs.Entries.{forFile, forPage, givesSlot}
 use Rattle.sector.proofs.ListLaws.{all-nil, all-cons, find-has}
 use Rattle.sector.proofs.CaseLaws.{by-equal, eqb-sym}
 use Rattle.sector.proofs.SearchLaws.{every-implies, any-none, none-found, every-end, distinct-end, not-member}
 use Rattle.volume.specs.Places.{fileAt}
-use Rattle.volume.specs.Views.{View, setRecord, setSlot, changed}
+use Rattle.volume.specs.Views.{View, Update, setRecord, setSlot, changed}
 use Rattle.volume.specs.Lawful.{entryFits, apart}
 use Rattle.volume.proofs.PlaceLaws.{IsFile}
 use Rattle.volume.proofs.ViewLaws.{Placed}
-use Rattle.volume.proofs.LawfulLaws.{RecordFacts, EntryFacts, Lawful, entry-facts, lawful-record, placed-record}
-use Rattle.volume.proofs.AlongLaws.{last, step}
+use Rattle.volume.proofs.LawfulLaws.{RecordFacts, Lawful, entry-facts, lawful-record, placed-record}
+use Rattle.volume.proofs.AlongLaws.{Along, last, step, along-map}
 use Rattle.rules.specs.Recovery.{isDecided, recovery}
-use Rattle.rules.specs.Plans.{entryFor, chosen, writePlan}
+use Rattle.rules.specs.Plans.{Call, begin, openFile, write, commit, abort, entryFor, chosen, writePlan, plan}
 use Rattle.rules.specs.Content.{decidedMap}
-use Rattle.rules.proofs.AllowedLaws.{Others, Running, MayAct, MayRead, MayWrite, running-undecided, running-foreign}
+use Rattle.rules.proofs.AllowedLaws.{MayAct, MayWrite, Allowed, running-undecided, running-foreign}
 use Rattle.rules.proofs.ChoiceLaws.{Free, chosen-free}
 use Rattle.rules.proofs.ContentLaws.{held-map}
 use Rattle.rules.proofs.RecoveryLaws.{decidedView, recovery-decided}
 use Rattle.atomicity.proofs.KeepLaws.{Keeps, keeps-self, keep-record, keep-slot}
-use Rattle.atomicity.proofs.PlanLaws.{KeptAlong, recovery-along}
+use Rattle.atomicity.proofs.PlanLaws.{KeptAlong, recovery-along, abort-along, begin-along, open-along}
 
 -- ------------------------------------------------------------------ an active client
-module _ (a : View) (s : Session) (k : ℕ) (w : MayAct a s k) where
+module _ {a : View} {s : Session} {k : ℕ} (w : MayAct a s k) where
   pub own-record : RecordFacts (a .table) (a .records k)
   own-record = w .ready .laws .records k (w .active .low) (w .running .client)
 
   -- The files that it holds: their decided map is their map, and none of its slots is given in its record.
   pub own-map : (f : ℕ) → a .headers f .holder ≡ k → decidedMap a f ≡ a .headers f .map
-  own-map f e = held-map a f k e (running-undecided a k (w .running))
+  own-map f e = held-map a f k e (running-undecided (w .running))
 
   pub own-apart : (f : ℕ) → IsFile (a .table) f → a .headers f .holder ≡ k → apart f (a .records k .entries) (a .headers f .map) ≡ true
   own-apart f i e = rw e at (w .ready .laws .headers f i .holder (λ z. omega (arith, w .active .low)) .away)
 
 -- ------------------------------------------------------------------ write
-module _ (a : View) (s : Session) (k f p : ℕ) (d : Bytes) (w : MayWrite a s k f p d) where
+module _ {a : View} {s : Session} {k f p : ℕ} {d : Bytes} (w : MayWrite a s k f p d) where
   act : MayAct a s k
   act = w .place .act
 
   self : Keeps a s k a
-  self = keeps-self a s k (act .ready .laws)
+  self = keeps-self (act .ready .laws)
 
   slot-placed : (r : ℕ) → r < fileAt (a .table) f .slots → Placed (a .table) (setSlot f r d)
   slot-placed r below = (w .place .file, below, w .size)
 
   slot-kept : (r : ℕ) → member r (a .headers f .map) ≡ false → Keeps a s k (changed a (setSlot f r d))
-  slot-kept r unmapped = keep-slot a s k a self f r d
-      (λ q lt. rw (own-map a s k act f (w .place .holder))
+  slot-kept r unmapped = keep-slot self f r d
+      (λ q lt. rw (own-map act f (w .place .holder))
       (not-member (a .headers f .map) r q unmapped (rw (act .ready .laws .headers f (w .place .file) .map .size) lt)))
-      (λ i o. running-foreign a i f (act .ready .runs i (o .active)) (λ x. o .other (sym x ∙ w .place .holder)) (λ e. eqb (e .slot) r))
+      (λ i o. running-foreign (act .ready .runs i (o .active)) f (λ x. o .other (sym x ∙ w .place .holder)) (λ e. eqb (e .slot) r))
 
   -- The slot of an entry that there is.
   pub entry-unmapped : (e : Entry) → entryFor a k f p ≡ some e → member (e .slot) (a .headers f .map) ≡ false
   entry-unmapped e found =
       let x = find-has (forPage f p) (λ e. not (forFile f e && member (e .slot) (a .headers f .map))) (a .records k .entries) e found
-      (own-apart a s k act f (w .place .file) (w .place .holder)) in
-      let file : forFile f e ≡ true = eq-eqb _ _ (entry-facts (a .table) (a .records k) (own-record a s k act) f p e found .file) in
+      (own-apart act f (w .place .file) (w .place .holder)) in
+      let file : forFile f e ≡ true = eq-eqb _ _ (entry-facts (own-record act) f p e found .file) in
       rw file at (not-true (forFile f e && member (e .slot) (a .headers f .map)) (x .1))
 
   -- ------------------------------------------------------------------ a new entry
@@ -85,7 +85,8 @@ module _ (a : View) (s : Session) (k f p : ℕ) (d : Bytes) (w : MayWrite a s k 
       fit = every-end (entryFits (a .table)) (a .records k .entries) (entryIn r) (facts .fit) fits;
       pages = distinct-end (λ e d. forPage (e .file) (e .page) d) (a .records k .entries) (entryIn r) (facts .pages)
           (every-implies (λ e. not (forPage f p e)) (λ e. not (forPage (e .file) (e .page) (entryIn r)))
-          (λ e h. rw (eqb-sym f (e .file), eqb-sym p (e .page)) h) (a .records k .entries) (none-found (forPage f p) (a .records k .entries) new));
+          (λ e h. rw (eqb-sym f (e .file), eqb-sym p (e .page)) h) (a .records k .entries)
+          (none-found (forPage f p) (a .records k .entries) new));
       slots = distinct-end (λ e d. givesSlot (e .file) (e .slot) d) (a .records k .entries) (entryIn r) (facts .slots)
           (every-implies (λ e. not (givesSlot f r e)) (λ e. not (givesSlot (e .file) (e .slot) (entryIn r)))
           (λ e h. rw (eqb-sym f (e .file), eqb-sym r (e .slot)) h) (a .records k .entries)
@@ -94,7 +95,7 @@ module _ (a : View) (s : Session) (k f p : ℕ) (d : Bytes) (w : MayWrite a s k 
     }
       where
         facts : RecordFacts (a .table) (a .records k)
-        facts = own-record a s k act
+        facts = own-record act
 
         fits : entryFits (a .table) (entryIn r) ≡ true
         fits = all-cons _ (le-leb _ _ (w .place .file .low)) (all-cons _ (le-leb _ _ (w .place .file .high))
@@ -103,45 +104,58 @@ module _ (a : View) (s : Session) (k f p : ℕ) (d : Bytes) (w : MayWrite a s k 
     grown-apart : (g : ℕ) → IsFile (a .table) g → a .headers g .holder ≡ k
         → apart g (a .records k .entries ++ (entryIn r ∷ [])) (a .headers g .map) ≡ true
     grown-apart g i e = every-end (λ x. not (forFile g x && member (x .slot) (a .headers g .map))) (a .records k .entries) (entryIn r)
-        (own-apart a s k act g i e) (by-equal f g (λ q. rw (eq-eqb f g q, ← q, free .unmapped)) (λ n. rw (ne-eqb f g n)))
+        (own-apart act g i e) (by-equal f g (λ q. rw (eq-eqb f g q, ← q, free .unmapped)) (λ n. rw (ne-eqb f g n)))
 
     grown-kept : Keeps a s k (changed (changed a (setSlot f r d)) (setRecord k (appended (a .records k) (entryIn r))))
-    grown-kept = keep-record a s k (changed a (setSlot f r d)) (slot-kept r (free .unmapped)) k (appended (a .records k) (entryIn r)) grown-facts
+    grown-kept = keep-record (slot-kept r (free .unmapped)) k (appended (a .records k) (entryIn r)) grown-facts
         (λ g i e. (rw (act .running .state), grown-apart g i e, undecided, undecided)) (λ i o. o .other)
       where
         undecided : isDecided a k ≡ false
-        undecided = running-undecided a k (act .running)
+        undecided = running-undecided (act .running)
 
     new-along : KeptAlong a s k a (setSlot f r d ∷ setRecord k (appended (a .records k) (entryIn r)) ∷ [])
     new-along =
-        step self (slot-placed r (free .below)) (step (slot-kept r (free .unmapped))
-        (placed-record (a .table) a (act .ready .laws) k (appended (a .records k) (entryIn r)) (act .active .low) (act .running .client) grown-facts)
-        (last grown-kept))
+        step self (slot-placed r (free .below))
+        (step (slot-kept r (free .unmapped)) (placed-record (act .active .low) (act .running .client) grown-facts) (last grown-kept))
 
   pub new-free : entryFor a k f p ≡ none → Free a k f (chosen a k f p)
   new-free new = chosen-free a k f p (rw new at (w .room))
 
   pub write-along : (o : Option Entry) → entryFor a k f p ≡ o → KeptAlong a s k a (writePlan a k f p d o)
   write-along (some e) found =
-      step self (slot-placed (e .slot) (entry-facts (a .table) (a .records k) (own-record a s k act) f p e found .slot))
+      step self (slot-placed (e .slot) (entry-facts (own-record act) f p e found .slot))
       (last (slot-kept (e .slot) (entry-unmapped e found)))
   write-along none new =
       let full : length (a .records k .entries) ≢ 62 = eqb-false _ _ (rw new at (w .few)) in
-      new-along (chosen a k f p) new (new-free new) (omega (arith, own-record a s k act .few))
+      new-along (chosen a k f p) new (new-free new) (omega (arith, own-record act .few))
 
 -- ------------------------------------------------------------------ commit
-module _ (a : View) (s : Session) (k : ℕ) (w : MayAct a s k) where
+module _ {a : View} {s : Session} {k : ℕ} (w : MayAct a s k) where
   decided-facts : RecordFacts (a .table) (decidedRecord (a .records k))
   decided-facts =
-      let x : RecordFacts (a .table) (a .records k) = own-record a s k w in
+      let x : RecordFacts (a .table) (a .records k) = own-record w in
       record { state = omega arith; few = x .few; fit = x .fit; pages = x .pages; slots = x .slots; idle = refl }
 
-  pub decided-placed : Placed (a .table) (setRecord k (decidedRecord (a .records k)))
-  decided-placed = placed-record (a .table) a (w .ready .laws) k (decidedRecord (a .records k)) (w .active .low) (w .running .client) decided-facts
+  decided-placed : Placed (a .table) (setRecord k (decidedRecord (a .records k)))
+  decided-placed = placed-record (w .active .low) (w .running .client) decided-facts
 
   decided-laws : Lawful (a .table) (decidedView a k)
-  decided-laws = lawful-record (a .table) a (w .ready .laws) k (decidedRecord (a .records k)) decided-facts
-      (λ f i e. (refl, own-apart a s k w f i e))
+  decided-laws = lawful-record (w .ready .laws) k (decidedRecord (a .records k)) decided-facts
+      (λ f i e. (refl, own-apart w f i e))
 
   pub commit-along : KeptAlong (decidedView a k) s k (decidedView a k) (recovery true a k)
-  commit-along = rw (recovery-decided a k) (recovery-along (decidedView a k) s k decided-laws (w .active .low) (w .running .client))
+  commit-along = rw (recovery-decided a k) (recovery-along s k decided-laws (w .active .low) (w .running .client))
+
+-- ------------------------------------------------------------------ every call
+-- The view is lawful before each update and after the last, and each update has its place.
+kept-lawful : {a₀ a : View} {s : Session} {k : ℕ} {xs : List Update} → KeptAlong a₀ s k a xs
+    → Along (a₀ .table) (Lawful (a₀ .table)) a xs
+kept-lawful = along-map (λ b kept. kept .laws)
+
+pub plan-lawful : (a : View) (s : Session) (c : Call) → Allowed a s c → Along (a .table) (Lawful (a .table)) a (plan a s c)
+unfolding plan
+plan-lawful a s (begin k) w = kept-lawful (begin-along w)
+plan-lawful a s (openFile k f) w = kept-lawful (open-along w)
+plan-lawful a s (write k f p d) w = kept-lawful (write-along w (entryFor a k f p) refl)
+plan-lawful a s (commit k) w = step (w .ready .laws) (decided-placed w) (kept-lawful (commit-along w))
+plan-lawful a s (abort k) w = kept-lawful (abort-along w)

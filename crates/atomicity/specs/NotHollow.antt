@@ -5,13 +5,13 @@ use mathlib.Core.List.{List, [], _∷_}
 use mathlib.Core.Logic.{_≢_}
 use Prim.Native.Nat.{ℕ}
 use Rattle.interface.specs.declared.Session.{Session}
-use Rattle.interface.specs.Answers.{Answer, done, crashed, refused, ReadAnswer, found, readRefused, FormatAnswer, formatDone}
+use Rattle.interface.specs.Answers.{Answer, done, crashed, refused, ReadAnswer, found, readRefused, formatDone}
 use Rattle.sector.specs.Contents.{Bytes}
 use Rattle.sector.specs.Sectors.{Volume}
 use Rattle.volume.specs.Sound.{sound}
 use Rattle.volume.specs.Format.{format}
 use Rattle.rules.specs.Plans.{Call}
-use Rattle.rules.specs.Calls.{After, call, read}
+use Rattle.rules.specs.Calls.{call, read}
 use Rattle.atomicity.specs.Runs.{Step, calls, reads, Run, started, given, stepped}
 
 -- Every call leaves a sound volume sound. The budget is any, so that holds after every prefix of its stores.

@@ -3,18 +3,17 @@ use mathlib.Core.Path.{_≡_, refl}
 use mathlib.Core.Bool.{Bool, true, false, not, _&&_, _||_}
 use mathlib.Core.List.{List, [], _∷_}
 use mathlib.Core.Logic.{_≢_}
-use Prim.Native.Nat.{ℕ, zero, suc, _≤_, _<_}
-use native.Mathlib.Nat.{not-suc-le-zero}
+use Prim.Native.Nat.{ℕ, _≤_, _<_}
 use native.Mathlib.Omega.{arith}
 use borrow.Author.Tests.{eqb-true, eq-eqb, ne-eqb, leb-true, le-leb, ltb-true, not-false}
 use lib.Dec.{eqb, leb}
-use lib.ListN.{length, getD}
+use lib.ListN.{length}
 use Rattle.interface.specs.declared.Session.{Session}
-use Rattle.sector.specs.Lists.{if_then_else_, first, every}
-use Rattle.sector.specs.Contents.{Bytes, File, Table, Entry, Record, Header}
+use Rattle.sector.specs.Lists.{first, every}
+use Rattle.sector.specs.Contents.{Bytes, Entry}
 use Rattle.sector.specs.Entries.{forFile}
 use Rattle.sector.specs.Sectors.{Volume}
-use Rattle.sector.proofs.ListLaws.{and-left, and-right, or-right, all-nil, all-cons, all-at, every-from, every-all}
+use Rattle.sector.proofs.ListLaws.{or-right, all-nil, all-cons, all-at, every-from, every-all}
 use Rattle.sector.proofs.CaseLaws.{by-test, by-equal}
 use Rattle.sector.proofs.SearchLaws.{or-true, every-implies, first-none}
 use Rattle.volume.specs.Places.{isClient, isFile, fileAt}
@@ -48,12 +47,12 @@ pub record Running (a : View) (j : ℕ) : Type 0 where
   pub mine : every (λ e. eqb (a .headers (e .file) .holder) j) (a .records j .entries) ≡ true
 
 -- It isn't decided, and has no entry for a file that it doesn't hold.
-pub running-undecided : (a : View) (j : ℕ) → Running a j → isDecided a j ≡ false
-running-undecided a j r = rw (r .state)
+pub running-undecided : {a : View} {j : ℕ} → Running a j → isDecided a j ≡ false
+running-undecided r = rw (r .state)
 
-pub running-foreign : (a : View) (j f : ℕ) → Running a j → a .headers f .holder ≢ j
+pub running-foreign : {a : View} {j : ℕ} → Running a j → (f : ℕ) → a .headers f .holder ≢ j
     → (t : Entry → Bool) → every (λ e. not (forFile f e && t e)) (a .records j .entries) ≡ true
-running-foreign a j f r n t =
+running-foreign {a} {j} r f n t =
     every-implies (λ e. eqb (a .headers (e .file) .holder) j) (λ e. not (forFile f e && t e)) one (a .records j .entries) (r .mine)
   where
     one : (e : Entry) → eqb (a .headers (e .file) .holder) j ≡ true → not (forFile f e && t e) ≡ true

@@ -2,36 +2,35 @@
 -- a sound volume. The array is a sequence of parts of known lengths, so what stands at a distance is found by passing over
 -- the parts before it.
 use mathlib.Core.Path.{_≡_, refl, sym, ap, _∙_}
-use mathlib.Core.Bool.{true, false, not, _||_}
+use mathlib.Core.Bool.{true, not}
 use mathlib.Core.List.{List, [], _∷_, _++_, append-assoc}
-use Prim.Native.Nat.{ℕ, zero, suc, _+_, _*_, _-_, _/_, _%_, _≤_, _<_}
+use Prim.Native.Nat.{ℕ, zero, suc, _+_, _*_, _-_, _%_, _≤_, _<_}
 use native.Mathlib.Nat.{not-suc-le-zero, le-of-suc-le-suc, sub-zero, suc-sub-suc, zero-sub}
 use native.Mathlib.Omega.{arith}
-use borrow.Author.Tests.{eq-eqb, leb-true, lt-ltb, not-false}
+use borrow.Author.Tests.{leb-true, lt-ltb, not-false}
 use lib.Dec.{eqb}
 use lib.ListN.{length, getD, take, drop, replicate, length-append, length-replicate}
 use lib.Seq.{take-at, drop-at, drop-drop, drop-append-add}
-use Rattle.interface.specs.Answers.{FormatAnswer, formatDone}
+use Rattle.interface.specs.Answers.{formatDone}
 use Rattle.sector.specs.Lists.{first, every, from}
-use Rattle.sector.specs.Contents.{Bytes, File, Table, Record, Header, idleRecord}
+use Rattle.sector.specs.Contents.{Bytes, File, Table, Header, idleRecord}
 use Rattle.sector.specs.Sectors.{Volume, sector}
 use Rattle.sector.specs.Encoding.{encodeTable, encodeRecord, encodeHeader}
-use Rattle.sector.specs.Decoding.{decodeTable, decodeRecord, decodeHeader}
-use Rattle.sector.proofs.ListLaws.{and-left, and-right, or-none, between-true, all-at, every-at, every-all, same-refl}
-use Rattle.sector.proofs.SearchLaws.{first-none, from-length, from-at, from-distinct}
+use Rattle.sector.specs.Decoding.{decodeTable, decodeRecord}
+use Rattle.sector.proofs.ListLaws.{and-left, and-right, or-none, between-true, all-at, every-all, same-refl}
+use Rattle.sector.proofs.SearchLaws.{first-none, from-length, from-distinct}
 use Rattle.sector.proofs.SectorLaws.{front}
 use Rattle.sector.proofs.CodecLaws.{table-back, table-length, record-back, record-length, header-back, header-length}
 use Rattle.volume.specs.Places.{noFile, fileAt, sectorAfter, headerSector, endSector, tablePlace, recordPlace, headerPlace, slotPlace}
-use Rattle.volume.specs.Views.{View}
-use Rattle.volume.specs.Lawful.{fileFits, lawful}
-use Rattle.volume.specs.Volumes.{tableOf, bytesAt, view}
+use Rattle.volume.specs.Lawful.{fileFits}
+use Rattle.volume.specs.Volumes.{bytesAt, view}
 use Rattle.volume.specs.Sound.{isRecordEncoding, isHeaderEncoding, sound}
 use Rattle.volume.specs.Format.{filesOf, tableFor, formatTests, repeated, newFiles, newVolume, formatBy, format}
 use Rattle.volume.proofs.PlaceLaws.{IsFile}
-use Rattle.volume.proofs.StoreLaws.{Shaped}
 use Rattle.volume.proofs.AccessLaws.{table-is, record-is, header-is, slot-is}
-use Rattle.volume.proofs.LawfulLaws.{TableFacts, FileFacts, MapFacts, HeaderFacts, Lawful, file-facts, idle-facts, facts-lawful}
-use Rattle.volume.proofs.CanonicalLaws.{Encoded, record-encoding, header-encoding, Canonical, sound-by}
+use Rattle.volume.proofs.LawfulLaws.{TableFacts, FileFacts, HeaderFacts, Lawful, file-facts, idle-facts, facts-lawful}
+use Rattle.volume.proofs.CanonicalLaws.{Encoded, record-encoding, header-encoding}
+use Rattle.volume.proofs.SoundLaws.{sound-by}
 
 -- ------------------------------------------------------------------ lists
 abbrev zeros : ℕ → Bytes
@@ -79,7 +78,8 @@ record NewFile (w : Bytes) (h : ℕ) (x : File) : Type 0 where
   header : sector w h ≡ encodeHeader x (newHeader x)
   slots : (r : ℕ) → r < x .slots → sector w (h + 1 + r) ≡ replicate 256 0
 
-module _ (x : File) (xs : List File) (w z : Bytes) (h : ℕ) (fits : fileFits x ≡ true) (e : drop (256 * h) w ≡ newFiles (x ∷ xs) ++ z) where
+module _ (x : File) (xs : List File) (w z : Bytes) (h : ℕ) (fits : fileFits x ≡ true)
+    (e : drop (256 * h) w ≡ newFiles (x ∷ xs) ++ z) where
   parts : drop (256 * h) w ≡ encodeHeader x (newHeader x) ++ (zeros (256 * x .slots) ++ (newFiles xs ++ z))
   unfolding newFiles
   parts = e ∙ simp append-assoc
@@ -109,15 +109,15 @@ unfolding sectorAfter
 file-in [] w z h n fit e lt = absurd (not-suc-le-zero lt)
 file-in (x ∷ xs) w z h zero fit e lt = first-file x xs w z h (and-left (fileFits x) _ fit) e
 file-in (x ∷ xs) w z h (suc n) fit e lt =
-    file-in xs w z (h + 1 + x .slots) n (and-right (fileFits x) _ fit) (behind-file x xs w z h (and-left (fileFits x) _ fit) e) (le-of-suc-le-suc lt)
+    file-in xs w z (h + 1 + x .slots) n (and-right (fileFits x) _ fit)
+    (behind-file x xs w z h (and-left (fileFits x) _ fit) e) (le-of-suc-le-suc lt)
 
 files-length : (xs : List File) (h : ℕ) → every fileFits xs ≡ true → 256 * h + length (newFiles xs) ≡ 256 * sectorAfter h xs
 unfolding newFiles sectorAfter
 files-length [] h e = omega arith
 files-length (x ∷ xs) h e =
-    let q : length (newFiles (x ∷ xs)) ≡ 256 + (256 * x .slots + length (newFiles xs)) =
-    length-append (encodeHeader x (newHeader x)) (zeros (256 * x .slots) ++ newFiles xs)
-    ∙ rw (new-header-length x (and-left (fileFits x) _ e), length-append (zeros (256 * x .slots)) (newFiles xs), length-replicate {A = ℕ} (256 * x .slots) 0) in
+    let l : length (encodeHeader x (newHeader x)) ≡ 256 = new-header-length x (and-left (fileFits x) _ e) in
+    let q : length (newFiles (x ∷ xs)) ≡ 256 + (256 * x .slots + length (newFiles xs)) = simp (length-append, length-replicate, l) in
     omega (arith, q, files-length xs (h + 1 + x .slots) (and-right (fileFits x) _ e))
 
 -- ------------------------------------------------------------------ the new volume
@@ -160,7 +160,8 @@ module _ (t : Table) (facts : TableFacts t) where
 
   new-length : length (newVolume t) ≡ 256 * t .sectors
   unfolding newVolume records
-  new-length = simp (length-append, length-replicate, table-long) (omega (arith, files-length (t .files) (t .clients + 1) (facts .fit), records-long, facts .ends))
+  new-length = simp (length-append, length-replicate, table-long)
+      (omega (arith, files-length (t .files) (t .clients + 1) (facts .fit), records-long, facts .ends))
 
   -- ------------------------------------------------------------------ its view
   pub new-table : view (newVolume t) .table ≡ t
@@ -185,7 +186,7 @@ module _ (t : Table) (facts : TableFacts t) where
     where
       headers : (f : ℕ) → IsFile t f → HeaderFacts t (view (newVolume t) .records) f (view (newVolume t) .headers f)
       headers f i =
-          let x : FileFacts (fileAt t f) = file-facts t facts f i in
+          let x : FileFacts (fileAt t f) = file-facts facts f i in
           rw (new-header f i) (record {
             map = record {
               size = from-length (fileAt t f .pages) 0;
@@ -236,11 +237,13 @@ pub record FormatFacts (t : Table) (v : Volume) : Type 0 where
   pub facts : TableFacts t
   pub volume : v ≡ newVolume t
 
-format-by : (n T : ℕ) (l : Bytes) (v : Volume) (i : ℕ) → first (formatTests n T l) ≡ i → formatBy i v (tableFor n T l) .answer ≡ formatDone
+format-by : (n T : ℕ) (l : Bytes) (v : Volume) (i : ℕ) → first (formatTests n T l) ≡ i
+    → formatBy i v (tableFor n T l) .answer ≡ formatDone
     → FormatFacts (tableFor n T l) (formatBy i v (tableFor n T l) .volume)
 format-by n T l v zero e d = record { facts = format-facts n T l e; volume = refl }
 format-by n T l v (suc i) e d = let z : _≡_ {A = ℕ} 0 1 = cc in absurd (not-suc-le-zero {n = 0} (omega arith))
 
-pub format-done : (v : Volume) (T : ℕ) (l : Bytes) → format v T l .answer ≡ formatDone → FormatFacts (tableFor (length v) T l) (format v T l .volume)
+pub format-done : (v : Volume) (T : ℕ) (l : Bytes) → format v T l .answer ≡ formatDone
+    → FormatFacts (tableFor (length v) T l) (format v T l .volume)
 unfolding format
 format-done v T l d = format-by (length v) T l v (first (formatTests (length v) T l)) refl d

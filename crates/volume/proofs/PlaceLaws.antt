@@ -12,10 +12,11 @@ use borrow.Author.Tests.{ltb-true, ltb-false, lt-ltb}
 use lib.Dec.{ltb}
 use lib.ListN.{length, getD, take}
 use lib.Seq.{take-length}
+use Rattle.sector.specs.Lists.{every}
 use Rattle.sector.specs.Contents.{File, Table}
-use Rattle.sector.proofs.ListLaws.{and-left, and-right, and-both, between-true, le-between}
+use Rattle.sector.proofs.ListLaws.{and-left, and-right, and-both, between-true, le-between, every-from, every-all}
 pub use Rattle.volume.specs.Places.{IsFile}
-use Rattle.volume.specs.Places.{isClient, isFile, noFile, fileAt, sectorAfter, headerSector, endSector, Place, tablePlace, recordPlace, headerPlace, slotPlace, sectorOf}
+use Rattle.volume.specs.Places.{isClient, clientNumbers, isFile, fileNumbers, noFile, fileAt, sectorAfter, headerSector, endSector, Place, tablePlace, recordPlace, headerPlace, slotPlace, sectorOf}
 
 -- The table has a file f.
 -- The place is one of the table's.
@@ -44,6 +45,19 @@ module _ (t : Table) where
 
   pub is-slot : (f r : ℕ) → IsFile t f → r < fileAt t f .slots → (isFile t f && ltb r (fileAt t f .slots)) ≡ true
   is-slot f r i lt = and-both (isFile t f) _ (is-file f i) (lt-ltb r (fileAt t f .slots) lt)
+
+  -- A test that holds at every client, or at every file.
+  pub every-client : (b : ℕ → Bool) → every b (clientNumbers t) ≡ true → (k : ℕ) → 1 ≤ k → k ≤ t .clients → b k ≡ true
+  every-client b e k lo hi = every-from b (t .clients) 1 e k lo (omega arith)
+
+  pub client-every : (b : ℕ → Bool) → ((k : ℕ) → 1 ≤ k → k ≤ t .clients → b k ≡ true) → every b (clientNumbers t) ≡ true
+  client-every b h = every-all b (t .clients) 1 (λ k lo hi. h k lo (omega arith))
+
+  pub every-file : (b : ℕ → Bool) → every b (fileNumbers t) ≡ true → (f : ℕ) → IsFile t f → b f ≡ true
+  every-file b e f i = every-from b (length (t .files)) 1 e f (i .low) (omega arith)
+
+  pub file-every : (b : ℕ → Bool) → ((f : ℕ) → IsFile t f → b f ≡ true) → every b (fileNumbers t) ≡ true
+  file-every b h = every-all b (length (t .files)) 1 (λ f lo hi. h f (record { low = lo; high = omega arith }))
 
 -- ------------------------------------------------------------------ files one behind the other
 -- The sector after one more file is that file's header and slots further.
