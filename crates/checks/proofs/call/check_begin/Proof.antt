@@ -1,48 +1,42 @@
+-- `check_begin` meets its contract: one part of its tests after the other.
+use mathlib.Core.Path.{refl, sym, ap, _∙_}
 use borrow.Author.Needs.{needs}
-use native.Mathlib.Omega.{arith}
-use Prim.Native.Nat.{ℕ, suc, _+_, _*_, _-_, _≤_, _<_}
-use mathlib.Core.Path.{_≡_, refl, sym, ap, _∙_}
-use mathlib.Core.List.{List, [], _∷_, _++_}
-use mathlib.Core.Logic.{⊎-elim}
-use lib.ListN.{length, take, drop, getD, set, length-set}
+use Rattle.volume.specs.Volumes.{view}
+use Rattle.volume.specs.Sound.{sound}
+use Rattle.rules.specs.Refusals.{tests}
+use Rattle.checks.specs.Verdicts.{numberOf, clientTests, beginTests}
+use Rattle.checks.proofs.VerdictLaws.{numbered, first-refuses, first-accepts, client-low}
 use Rattle.checks.proofs.call.check_begin.Statement.{statement}
 use Rattle.checks.proofs.call.check_begin.Tie as tie
-use Rattle.checks.proofs.call.check_begin.Reads as reads
-use Rattle.checks.proofs.call.check_begin.Lts as lts
-use Rattle.checks.proofs.call.check_client.Reads as check-client-reads
-use Rattle.checks.proofs.call.check_inactive.Reads as check-inactive-reads
 
--- src/call.rt:117:11
 check-client-requires : tie.Need-check-client-requires
 check-client-requires c κs = search needs
 
--- src/call.rt:118:26
 enum-known-r : tie.Need-enum-known-r
 enum-known-r c = search needs
 
--- src/call.rt:119:30
 enum-told : tie.Need-enum-told
 enum-told c = search needs
 
--- src/call.rt:119:30
 check-inactive-requires : tie.Need-check-inactive-requires
-check-inactive-requires c κs = search needs
+check-inactive-requires c κs =
+    let q = c .before .before in
+    let s = q .before .before in
+    client-low (s .args .v .now) (s .args .s) (s .args .k) (ap numberOf (sym (c .enum-told .given .1)) ∙ q .check-client .ensures)
 
--- src/call.rt:114:1
 returns : tie.Need-returns
-returns c = search needs
+unfolding tests
+returns c =
+    let q = c .before .before .before in
+    let s = q .before .before in
+    first-refuses _ (clientTests (sound (s .args .v .now)) (view (s .args .v .now)) (s .args .s) (s .args .k)) (beginTests (s .args .s) (s .args .k)) (numbered (c .before .r .given .0 .0)) (ap numberOf (sym (c .before .r .given .1)) ∙ q .check-client .ensures)
 
--- src/call.rt:114:1
 returns-2 : tie.Need-returns-2
-returns-2 c = search needs
+unfolding tests
+returns-2 c =
+    let q = c .before .before .before in
+    let s = q .before .before in
+    first-accepts _ (clientTests (sound (s .args .v .now)) (view (s .args .v .now)) (s .args .s) (s .args .k)) (beginTests (s .args .s) (s .args .k)) refl (ap numberOf (sym (c .before .enum-told .given .1)) ∙ q .check-client .ensures) (c .check-inactive .ensures)
 
 pub check-begin-spec : {M : Type 1} → statement M
-check-begin-spec =
-    tie.close
-    (tie.spec
-    check-client-requires
-    enum-known-r
-    enum-told
-    check-inactive-requires
-    returns
-    returns-2)
+check-begin-spec = tie.close (tie.spec check-client-requires enum-known-r enum-told check-inactive-requires returns returns-2)

@@ -1,42 +1,39 @@
+-- `check_free` meets its contract: the first test that fails gives its number.
+use mathlib.Core.Path.{sym, _∙_}
 use borrow.Author.Needs.{needs}
-use native.Mathlib.Omega.{arith}
-use Prim.Native.Nat.{ℕ, suc, _+_, _*_, _-_, _≤_, _<_}
-use mathlib.Core.Path.{_≡_, refl, sym, ap, _∙_}
-use mathlib.Core.List.{List, [], _∷_, _++_}
-use mathlib.Core.Logic.{⊎-elim}
-use lib.ListN.{length, take, drop, getD, set, length-set}
+use borrow.Author.Tests.{le-leb, lt-leb}
+use Rattle.sector.specs.Lists.{first}
+use Rattle.volume.proofs.KnownLaws.{sound-known}
 use Rattle.checks.proofs.call.check_free.Statement.{statement}
 use Rattle.checks.proofs.call.check_free.Tie as tie
-use Rattle.checks.proofs.call.check_free.Reads as reads
-use Rattle.checks.proofs.call.check_free.Lts as lts
-use Rattle.checks.proofs.call.held_by_other.Reads as held-by-other-reads
-use Rattle.volume.proofs.files.Reads as files-reads
 
--- src/call.rt:82:9
 returns : tie.Need-returns
-returns c = search needs
+unfolding first
+returns c = rw (lt-leb 1 _ (c .if1 .taken))
 
--- src/call.rt:84:8
 files-requires : tie.Need-files-requires
-files-requires c κs = search needs
+files-requires c κs = let s = c .before .before in sound-known (s .args .v .now) (s .pre)
 
--- src/call.rt:85:9
 returns-2 : tie.Need-returns-2
-returns-2 c = search needs
+unfolding first
+returns-2 c = rw (le-leb 1 _ (c .before .before .if1 .left), lt-leb _ _ (rw (c .before .files .ensures) at (c .if2 .taken)))
 
--- src/call.rt:87:8
 held-by-other-requires : tie.Need-held-by-other-requires
-held-by-other-requires c κs = search needs
+held-by-other-requires c κs =
+    let s = c .before .before .before .before in
+    (s .pre, record { low = c .before .before .if1 .left; high = rw (c .before .files .ensures) at (c .if2 .left) })
 
--- src/call.rt:88:9
 returns-3 : tie.Need-returns-3
-returns-3 c = search needs
+unfolding first
+returns-3 c =
+    let o = c .before .before in
+    rw (le-leb 1 _ (o .before .before .if1 .left), le-leb _ _ (rw (o .before .files .ensures) at (o .if2 .left)), sym (c .before .held-by-other .ensures) ∙ c .if3 .taken)
 
--- src/call.rt:77:1
 returns-4 : tie.Need-returns-4
-returns-4 c = search needs
+unfolding first
+returns-4 c =
+    let o = c .before .before in
+    rw (le-leb 1 _ (o .before .before .if1 .left), le-leb _ _ (rw (o .before .files .ensures) at (o .if2 .left)), sym (c .before .held-by-other .ensures) ∙ c .if3 .left)
 
 pub check-free-spec : {M : Type 1} → statement M
-check-free-spec =
-    tie.close
-    (tie.spec returns files-requires returns-2 held-by-other-requires returns-3 returns-4)
+check-free-spec = tie.close (tie.spec returns files-requires returns-2 held-by-other-requires returns-3 returns-4)

@@ -1,27 +1,20 @@
+-- `check_running` meets its contract: the mark decides.
+use mathlib.Core.Path.{sym, _∙_}
 use borrow.Author.Needs.{needs}
-use native.Mathlib.Omega.{arith}
-use Prim.Native.Nat.{ℕ, suc, _+_, _*_, _-_, _≤_, _<_}
-use mathlib.Core.Path.{_≡_, refl, sym, ap, _∙_}
-use mathlib.Core.List.{List, [], _∷_, _++_}
-use mathlib.Core.Logic.{⊎-elim}
-use lib.ListN.{length, take, drop, getD, set, length-set}
+use Rattle.sector.specs.Lists.{first}
 use Rattle.checks.proofs.call.check_running.Statement.{statement}
 use Rattle.checks.proofs.call.check_running.Tie as tie
-use Rattle.checks.proofs.call.check_running.Reads as reads
-use Rattle.checks.proofs.call.check_running.Lts as lts
-use Rattle.checks.proofs.session.is_active.Reads as is-active-reads
 
--- src/call.rt:55:8
 is-active-requires : tie.Need-is-active-requires
 is-active-requires c κs = search needs
 
--- src/call.rt:56:9
 returns : tie.Need-returns
-returns c = search needs
+unfolding first
+returns c = rw (sym (c .before .is-active .ensures) ∙ c .if1 .taken)
 
--- src/call.rt:51:1
 returns-2 : tie.Need-returns-2
-returns-2 c = search needs
+unfolding first
+returns-2 c = rw (sym (c .before .is-active .ensures) ∙ c .if1 .left)
 
 pub check-running-spec : {M : Type 1} → statement M
 check-running-spec = tie.close (tie.spec is-active-requires returns returns-2)

@@ -1,37 +1,39 @@
-use borrow.Author.Needs.{needs}
+-- `held_by_other` meets its contract: each part of the condition is tested.
+use mathlib.Core.Path.{sym, _∙_}
+use mathlib.Core.Logic.{_≢_}
 use native.Mathlib.Omega.{arith}
-use Prim.Native.Nat.{ℕ, suc, _+_, _*_, _-_, _≤_, _<_}
-use mathlib.Core.Path.{_≡_, refl, sym, ap, _∙_}
-use mathlib.Core.List.{List, [], _∷_, _++_}
-use mathlib.Core.Logic.{⊎-elim}
-use lib.ListN.{length, take, drop, getD, set, length-set}
+use borrow.Author.Needs.{needs}
+use borrow.Author.Tests.{eq-eqb, ne-eqb}
+use Rattle.volume.proofs.KnownLaws.{sound-known}
+use Rattle.checks.proofs.VerdictLaws.{holder-few}
 use Rattle.checks.proofs.call.held_by_other.Statement.{statement}
 use Rattle.checks.proofs.call.held_by_other.Tie as tie
-use Rattle.checks.proofs.call.held_by_other.Reads as reads
-use Rattle.checks.proofs.call.held_by_other.Lts as lts
-use Rattle.checks.proofs.session.is_active.Reads as is-active-reads
-use Rattle.volume.proofs.holder.Reads as holder-reads
 
--- src/call.rt:66:9
 holder-requires : tie.Need-holder-requires
-holder-requires c κs = search needs
+holder-requires c κs = let s = c .before in (sound-known (s .args .v .now) (s .pre .0), s .pre .1)
 
--- src/call.rt:68:9
 returns : tie.Need-returns
-returns c = search needs
+returns c = rw (eq-eqb _ _ (sym (c .before .holder .ensures) ∙ c .if1 .taken))
 
--- src/call.rt:71:9
 returns-2 : tie.Need-returns-2
-returns-2 c = search needs
+returns-2 c =
+    let o = c .before in
+    let h = o .before .holder .ensures in
+    rw (ne-eqb _ 0 (λ q. o .if1 .left (h ∙ q)), eq-eqb _ _ (sym h ∙ c .if2 .taken))
 
--- src/call.rt:73:5
 is-active-requires : tie.Need-is-active-requires
-is-active-requires c κs = search needs
+is-active-requires c κs =
+    let h = c .before .before in
+    let s = h .before .before in
+    let some : h .holder .result ≢ 0 = c .before .if1 .left in
+    let few = holder-few (s .args .v .now) (s .pre .0) (s .args .f) (s .pre .1) in
+    (omega arith, rw (h .holder .ensures) few)
 
--- src/call.rt:62:1
 returns-3 : tie.Need-returns-3
-returns-3 c = search needs
+returns-3 c =
+    let e = c .before in
+    let h = e .before .before .holder .ensures in
+    rw (ne-eqb _ 0 (λ q. e .before .if1 .left (h ∙ q)), ne-eqb _ _ (λ q. e .if2 .left (h ∙ q))) (c .is-active .ensures ∙ rw h)
 
 pub held-by-other-spec : {M : Type 1} → statement M
-held-by-other-spec =
-    tie.close (tie.spec holder-requires returns returns-2 is-active-requires returns-3)
+held-by-other-spec = tie.close (tie.spec holder-requires returns returns-2 is-active-requires returns-3)
