@@ -1,0 +1,66 @@
+-- The table and a header, built in a sector of zeros: the fixed bytes at the front by computation, then what is put behind
+-- them, an entry for each file or a slot for each page. A loop keeps that what is still to be put makes up the whole.
+use mathlib.Core.Path.{_≡_, refl, ap, sym, _∙_}
+use mathlib.Core.List.{List, [], _∷_, _++_}
+use Prim.Native.Nat.{ℕ, zero, suc, _+_, _*_, _-_, _/_, _%_, _≤_, _<_}
+use native.Mathlib.Numerals.{add-one}
+use native.Mathlib.Omega.{arith}
+use lib.ListN.{length, drop, set, replicate}
+use Rattle.sector.specs.Lists.{from}
+use Rattle.sector.specs.Contents.{Bytes, File}
+use Rattle.sector.specs.Sectors.{wordBytes, zeroSector, padded}
+use Rattle.sector.specs.Encoding.{fileBytes, encodeTable, encodeHeader}
+use Rattle.sector.proofs.CodecLaws.{files-length}
+use Rattle.volume.specs.Format.{filesOf}
+use Rattle.format.specs.Requests.{pairAt}
+use Rattle.format.specs.Puts.{Puts}
+use Rattle.format.proofs.PutsLaws.{puts-more, puts-byte}
+use Rattle.format.proofs.RequestLaws.{files-count, files-from}
+
+-- ------------------------------------------------------------------ the table
+-- Four bytes.
+pub entry-put : (at x y z w : ℕ) (b : Bytes)
+    → Puts at (x ∷ y ∷ z ∷ w ∷ []) b (set (set (set (set b at x) (at + 1) y) (at + 2) z) (at + 3) w)
+entry-put at x y z w b =
+    puts-more at (at + 1) (x ∷ []) (y ∷ z ∷ w ∷ []) b _ _ refl (puts-byte at x b)
+    (puts-more (at + 1) (at + 2) (y ∷ []) (z ∷ w ∷ []) _ _ _ (omega arith) (puts-byte (at + 1) y _)
+    (puts-more (at + 2) (at + 3) (z ∷ []) (w ∷ []) _ _ _ (omega arith) (puts-byte (at + 2) z _) (puts-byte (at + 3) w _)))
+
+pub entries-turn : (l : Bytes) (i h : ℕ) (b c : Bytes) → i < length l / 2
+    → Puts (8 + 4 * i) (wordBytes h (pairAt l i .pages ∷ pairAt l i .slots ∷ [])) b c
+    → (w : Bytes) → Puts (8 + 4 * (i + 1)) (fileBytes (h + 1 + pairAt l i .slots) (drop (i + 1) (filesOf l))) c w
+    → Puts (8 + 4 * i) (fileBytes h (drop i (filesOf l))) b w
+unfolding fileBytes
+entries-turn l i h b c lt one w rest =
+    rw (files-from l i lt) (puts-more (8 + 4 * i) (8 + 4 * (i + 1)) _ _ b c w (omega arith) one rest)
+
+pub table-built : (N T F : ℕ) (l w : Bytes) → F ≡ length (filesOf l) → length l ≤ 32
+    → Puts 8 (fileBytes (T + 1) (filesOf l)) (set (set (set (set (set (set zeroSector 0 0x4B) 1 0x56) 2 (N % 256)) 3 (N / 256)) 4 T) 5 F) w
+    → w ≡ encodeTable (record { sectors = N; clients = T; files = filesOf l })
+unfolding zeroSector Puts encodeTable padded
+table-built N T F l w e few x =
+    let d : Bytes = fileBytes (T + 1) (filesOf l) in
+    let head : Bytes = 0x4B ∷ 0x56 ∷ N % 256 ∷ N / 256 ∷ T ∷ F ∷ 0 ∷ 0 ∷ [] in
+    let n : ℕ = 256 - length (head ++ d) in
+    let all : length d + n ≡ 248 = omega (arith, files-length (T + 1) (filesOf l), files-count l) in
+    rw (← e) (x head n refl (rw all))
+
+-- ------------------------------------------------------------------ a header
+pub from-length : (n a : ℕ) → length (from a n) ≡ n
+from-length zero a = refl
+from-length (suc n) a = ap suc (from-length n (suc a))
+
+pub map-turn : (n p : ℕ) (b : Bytes) → p < n
+    → (w : Bytes) → Puts (8 + (p + 1)) (from (p + 1) (n - (p + 1))) (set b (8 + p) p) w → Puts (8 + p) (from p (n - p)) b w
+map-turn n p b lt w rest =
+    let m : n - p ≡ suc (n - (p + 1)) = omega arith in
+    rw (m, ← add-one p) (puts-more (8 + p) (8 + (p + 1)) (p ∷ []) _ b _ w (omega arith) (puts-byte (8 + p) p b) rest)
+
+pub header-built : (n : ℕ) (w : Bytes) → n ≤ 248 → Puts 8 (from 0 n) (set (set zeroSector 0 0x4B) 1 0x46) w
+    → (x : File) → w ≡ encodeHeader x (record { holder = 0; map = from 0 n })
+unfolding zeroSector Puts encodeHeader padded
+header-built n w le put x =
+    let head : Bytes = 0x4B ∷ 0x46 ∷ 0 ∷ 0 ∷ 0 ∷ 0 ∷ 0 ∷ 0 ∷ [] in
+    let m : ℕ = 256 - length (head ++ from 0 n) in
+    let all : length (from 0 n) + m ≡ 248 = omega (arith, from-length n 0) in
+    put head m refl (rw all)

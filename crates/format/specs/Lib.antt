@@ -1,0 +1,3 @@
+pub mod Outcomes
+pub mod Requests
+pub mod Puts

@@ -1,0 +1,5 @@
+pub mod BudgetLaws
+pub mod MadeLaws
+pub mod HeaderLaws
+pub mod WorkLaws
+pub mod ReleaseLaws
