@@ -6,7 +6,7 @@ use mathlib.Core.Bool.{false}
 use mathlib.Core.List.{List}
 use mathlib.Core.Option.{Option, none, some}
 use Prim.Native.Nat.{ℕ, suc, _<_}
-use lib.ListN.{getD}
+use lib.ListN.{getD, take}
 use Rattle.interface.specs.declared.Session.{Session}
 use Rattle.interface.specs.Answers.{refused}
 use Rattle.sector.specs.Lists.{if_then_else_, first}
@@ -20,14 +20,14 @@ use Rattle.volume.specs.Volumes.{view}
 use Rattle.volume.specs.Sound.{sound}
 use Rattle.volume.proofs.AccessLaws.{slot-is}
 use Rattle.volume.proofs.LawfulLaws.{Lawful, EntryFacts, entry-facts}
-use Rattle.volume.proofs.AlongLaws.{Along}
+use Rattle.volume.proofs.AlongLaws.{Along, changed-table}
 use Rattle.volume.proofs.SoundLaws.{along-view, prefix-view}
 use Rattle.rules.specs.Sessions.{noneActive}
 use Rattle.rules.specs.Plans.{Call, begin, openFile, write, commit, abort, entryFor, slotFor, plan}
 use Rattle.rules.specs.Refusals.{tests, readTests}
-use Rattle.rules.specs.Calls.{After, call, read}
+use Rattle.rules.specs.Calls.{After, call, read, partOf}
 use Rattle.rules.specs.Content.{decidedMap}
-use Rattle.rules.proofs.CallLaws.{call-case, read-case}
+use Rattle.rules.proofs.CallLaws.{call-case, read-found, read-case}
 use Rattle.rules.proofs.SessionLaws.{none-active}
 use Rattle.rules.proofs.AllowedLaws.{Active, MayRead, readable, allowed, allowed-sound}
 use Rattle.rules.proofs.ContentLaws.{decided-slot}
@@ -68,6 +68,13 @@ call-matches v s m h c budget =
     out : first (tests (sound v) (view v) s c) ≡ 0 → Outcome (view v) s (if noneActive s then emptied m else m) c
     out e = outcome (view v) s (if noneActive s then emptied m else m) clear c (allowed v s c e)
 
+-- The table stays.
+pub call-table : (v : Volume) (s : Session) (c : Call) (budget : ℕ) → view (call v s c budget .volume) .table ≡ view v .table
+call-table v s c budget = call-case (λ (x : After). view (x .volume) .table ≡ view v .table) v s c budget
+    (λ n e. refl)
+    (λ e. rw (along-view v (allowed-sound v s c e) (lawful-along v s c e)) (changed-table (plan (view v) s c) (view v)))
+    (λ e. rw (prefix-view v (allowed-sound v s c e) (lawful-along v s c e) budget) (changed-table (take budget (plan (view v) s c)) (view v)))
+
 -- ------------------------------------------------------------------ a read
 -- The slot that a read finds is one of the file's, and has what the model shows.
 slot-shown : (a : View) (s : Session) (m : Model) → Matches a s m → (k f p : ℕ) → MayRead a s k f p
@@ -89,8 +96,9 @@ read-pending a s m h k w = h .tracked some k (w .low) (w .high) .active (w .on)
     some : noneActive s ≡ false
     some = by-test (noneActive s) (λ e. no-both _ (w .on) (none-active s k e)) (λ e. e)
 
-pub read-matches : (v : Volume) (s : Session) (m : Model) → Matches (view v) s m → (k f p : ℕ) → ReadAgrees v m k f p (read v s k f p)
-read-matches v s m h k f p = read-case (ReadAgrees v m k f p) v s k f p (λ n e. tt) (λ e. (same e, same e))
+pub read-matches : (v : Volume) (s : Session) (m : Model) → Matches (view v) s m → (k f p : ℕ) → ReadAgrees v s m k f p (read v s k f p)
+read-matches v s m h k f p = read-case (ReadAgrees v s m k f p) v s k f p (λ n e. tt)
+    (λ e. (same e, ap (partOf v) (read-found v s k f p e) ∙ same e))
   where
     same : first (readTests (sound v) (view v) s k f p) ≡ 0
         → sector v (sectorOf (view v .table) (slotPlace f (slotFor (view v) f p (entryFor (view v) k f p)))) ≡ shown m k f p

@@ -26,33 +26,36 @@ use Rattle.atomicity.specs.Model.{noPending, Model, newModel}
 use Rattle.atomicity.specs.Runs.{Step, calls, reads, Run, started, given, stepped}
 use Rattle.atomicity.specs.AllOrNone.{ContentAgrees, Agrees, AllOrNone}
 use Rattle.atomicity.proofs.RelationLaws.{Matches, new-matches}
-use Rattle.atomicity.proofs.StepLaws.{call-matches, read-matches}
+use Rattle.atomicity.proofs.StepLaws.{call-matches, call-table, read-matches}
 
--- Volume and session are related to the model.
-abbrev pub Related : Run → Type 0
-Related r = Matches (view (r .volume)) (r .session) (r .model)
+-- Volume and session are related to the model, and the volume's table is t.
+pub record Related (t : Table) (r : Run) : Type 0 where
+  pub table : view (r .volume) .table ≡ t
+  pub matches : Matches (view (r .volume)) (r .session) (r .model)
 
 -- ------------------------------------------------------------------ every list of steps
 given-matches : (a : View) (s : Session) (m : Model) (crash : Bool) → Matches a s m → Matches a (given crash s) m
 given-matches a s m true h = new-matches a m (h .pages)
 given-matches a s m false h = h
 
-content-agrees : (r : Run) → Related r → ContentAgrees r
-content-agrees r h f p lo hi lt = h .pages f p (record { low = lo; high = hi }) lt
+content-agrees : (t : Table) (r : Run) → Related t r → ContentAgrees t r
+content-agrees t r h f p lo hi lt = h .matches .pages f p (rw (h .table) (record { low = lo; high = hi })) (rw (h .table) lt)
 
 -- From any start that is related.
-pub agrees : (r : Run) (steps : List Step) → Related r → Agrees r steps
+pub agrees : (t : Table) (r : Run) (steps : List Step) → Related t r → Agrees t r steps
 unfolding stepped
-agrees r [] h = content-agrees r h
-agrees r (calls crash c budget ∷ xs) h =
-    let g : Matches (view (r .volume)) (given crash (r .session)) (r .model) = given-matches _ _ _ crash h in (
-      content-agrees r h,
-      tt,
-      agrees (stepped r (calls crash c budget)) xs (call-matches (r .volume) (given crash (r .session)) (r .model) g c budget),
-    )
-agrees r (reads crash k f p ∷ xs) h =
-    let g : Matches (view (r .volume)) (given crash (r .session)) (r .model) = given-matches _ _ _ crash h in
-    (content-agrees r h, read-matches (r .volume) (given crash (r .session)) (r .model) g k f p, agrees r xs h)
+agrees t r [] h = content-agrees t r h
+agrees t r (calls crash c budget ∷ xs) h =
+    let s = given crash (r .session) in
+    let g : Matches (view (r .volume)) (given crash (r .session)) (r .model) = given-matches _ _ _ crash (h .matches) in
+    let next : Related t (stepped r (calls crash c budget)) = record {
+      table = call-table (r .volume) s c budget ∙ h .table;
+      matches = call-matches (r .volume) s (r .model) g c budget;
+    } in
+    (content-agrees t r h, tt, agrees t (stepped r (calls crash c budget)) xs next)
+agrees t r (reads crash k f p ∷ xs) h =
+    let g : Matches (view (r .volume)) (given crash (r .session)) (r .model) = given-matches _ _ _ crash (h .matches) in
+    (content-agrees t r h, read-matches (r .volume) (given crash (r .session)) (r .model) g k f p, agrees t r xs h)
 
 -- A volume with the decided content that it has, and a new session.
 abbrev pub startedAs : Volume → Run
@@ -62,8 +65,9 @@ startedAs v = record {
   model = record { pages = decidedContent (view v); pending = λ k. noPending };
 }
 
-pub agrees-from : (v : Volume) (steps : List Step) → Agrees (startedAs v) steps
-agrees-from v steps = agrees (startedAs v) steps (new-matches (view v) _ (λ f p i lt. refl))
+pub agrees-from : (v : Volume) (steps : List Step) → Agrees (view v .table) (startedAs v) steps
+agrees-from v steps = agrees (view v .table) (startedAs v) steps
+    (record { table = refl; matches = new-matches (view v) _ (λ f p i lt. refl) })
 
 -- ------------------------------------------------------------------ from a formatted volume
 -- Page p is in slot p, and every slot is zero.
@@ -80,11 +84,14 @@ new-content t facts f p i lt =
     header : view (newVolume t) .headers f ≡ newHeader (fileAt t f)
     header = new-header t facts f i
 
-new-related : (t : Table) → TableFacts t → Related (started (newVolume t))
-new-related t facts = new-matches (view (newVolume t)) newModel
-    (λ f p i lt. new-content t facts f p (rw (new-table t facts) at i) (rw (new-table t facts) at lt))
+new-related : (t : Table) → TableFacts t → Related t (started (newVolume t))
+new-related t facts = record {
+  table = new-table t facts;
+  matches = new-matches (view (newVolume t)) newModel
+      (λ f p i lt. new-content t facts f p (rw (new-table t facts) at i) (rw (new-table t facts) at lt));
+}
 
 pub all-or-none : AllOrNone
 all-or-none v T l d steps =
     let x : FormatFacts (tableFor (length v) T l) (format v T l .volume) = format-done v T l d in
-    agrees (started (format v T l .volume)) steps (rw (x .volume) (new-related (tableFor (length v) T l) (x .facts)))
+    agrees (tableFor (length v) T l) (started (format v T l .volume)) steps (rw (x .volume) (new-related (tableFor (length v) T l) (x .facts)))

@@ -31,6 +31,12 @@ call-case P v s c budget r d k = go (first (tests (sound v) (view v) s c)) refl
     go zero e = if-test P (leb (length (allStores (view v .table) (plan (view v) s c))) budget) _ _ (λ x. d e) (λ x. k e)
     go (suc n) e = r n e
 
+-- A read that isn't refused.
+pub read-found : (v : Volume) (s : Session) (k f p : ℕ) → first (readTests (sound v) (view v) s k f p) ≡ 0
+    → read v s k f p ≡ found (sectorOf (view v .table) (slotPlace f (slotFor (view v) f p (entryFor (view v) k f p))))
+unfolding read
+read-found v s k f p e = rw e
+
 -- It is refused, or it answers the sector of the slot that it finds.
 pub read-case : (P : ReadAnswer → Type 0) (v : Volume) (s : Session) (k f p : ℕ)
     → let number = first (readTests (sound v) (view v) s k f p) in

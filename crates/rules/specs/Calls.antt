@@ -53,3 +53,7 @@ read v s k f p = readBy (first (readTests (sound v) (view v) s k f p)) (view v) 
 abbrev pub partOf : Volume → ReadAnswer → Bytes
 partOf v (found n) = sector v n
 partOf v (readRefused n) = []
+
+-- That second call, with the read's arguments.
+abbrev pub readPart : Volume → Session → ℕ → ℕ → ℕ → Bytes
+readPart v s k f p = partOf v (read v s k f p)
