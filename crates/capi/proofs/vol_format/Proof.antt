@@ -1,0 +1,24 @@
+-- `vol_format` meets its contract: the outcome packed, and the array that format leaves.
+use mathlib.Core.Path.{ap, _∙_}
+use borrow.Author.Needs.{needs}
+use Rattle.volume.specs.Format.{Formatted}
+use Rattle.capi.specs.Packing.{packedFormat}
+use Rattle.capi.proofs.vol_format.Statement.{statement}
+use Rattle.capi.proofs.vol_format.Tie as tie
+
+format-requires : tie.Need-format-requires
+format-requires c κs = search needs
+
+pack-format-requires : tie.Need-pack-format-requires
+pack-format-requires c κs = search needs
+
+same-length : tie.Need-same-length
+same-length c = search needs
+
+returns : tie.Need-returns
+returns c =
+    let at = c .before .before .before in
+    (c .pack-format .ensures ∙ ap packedFormat (ap (λ (x : Formatted). x .answer) (at .format .ensures)), ap (λ (x : Formatted). x .volume) (at .format .ensures))
+
+pub vol-format-spec : {M : Type 1} → statement M
+vol-format-spec = tie.close (tie.spec format-requires pack-format-requires same-length returns)
