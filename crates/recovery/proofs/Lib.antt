@@ -3,3 +3,4 @@ pub mod MadeLaws
 pub mod HeaderLaws
 pub mod WorkLaws
 pub mod ReleaseLaws
+pub mod RecoveredLaws

@@ -75,7 +75,7 @@ module _ (redo : Bool) (a : View) (k : ℕ) where
   unfolding releaseOf
   release-records f b = if-test (λ (xs : List Update). changedBy b xs .records ≡ b .records) (holds a k f) _ [] (λ e. refl) (λ e. refl)
 
-  release-other : (f g : ℕ) (b : View) → g ≢ f → changedBy b (releaseOf redo a k f) .headers g ≡ b .headers g
+  pub release-other : (f g : ℕ) (b : View) → g ≢ f → changedBy b (releaseOf redo a k f) .headers g ≡ b .headers g
   unfolding releaseOf
   release-other f g b n = if-test (λ (xs : List Update). changedBy b xs .headers g ≡ b .headers g) (holds a k f) _ []
       (λ e. rw (ne-eqb g f n)) (λ e. refl)

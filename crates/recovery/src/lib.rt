@@ -3,6 +3,7 @@
 mod release;
 
 pub use release::recover;
+pub use release::store_empty_record;
 
 // What a run of stores under a budget came to.
 pub struct Run {

@@ -2,7 +2,6 @@
 ghost use mathlib.Core.Path.{_≡_};
 ghost use mathlib.Core.List.{[], _∷_};
 ghost use lib.ListN.{length};
-ghost use Rattle.sector.specs.Contents.{idleRecord};
 ghost use Rattle.sector.specs.Encoding.{encodeHeader};
 ghost use Rattle.volume.specs.Places.{IsClient, IsFile, fileAt};
 ghost use Rattle.volume.specs.Views.{setRecord};
@@ -53,16 +52,16 @@ fn release_one(v: &mut [u8], k: u8, redo: bool, f: u8, left: u8) -> Step
     Step::Stored
 }
 
-// Client k's record is stored idle.
-fn make_idle(v: &mut [u8], k: u8, left: u8) -> Run
+// Client k's record is stored in this state, with no entries.
+pub fn store_empty_record(v: &mut [u8], k: u8, state: u8, left: u8) -> Run
     requires { ⌜ Known (now v) × IsClient (view (now v) .table) k ⌝ }
-    ensures { λ r. ⌜ Made left (now (v .entry)) (setRecord k idleRecord ∷ []) (now (v .exit)) (r .made) (r .crashed) ⌝ }
+    ensures { λ r. ⌜ Made left (now (v .entry)) (setRecord k (record { state = state; entries = [] }) ∷ []) (now (v .exit)) (r .made) (r .crashed) ⌝ }
 {
     if left == 0 {
         return Run::SHORT;
     }
     let mut buf = sector::zeros();
-    sector::empty_record(&mut buf, 0);
+    sector::empty_record(&mut buf, state);
     volume::store_record(v, k, &buf);
     Run::ONE
 }
@@ -90,7 +89,7 @@ fn release(v: &mut [u8], k: u8, redo: bool, budget: u8) -> Run
         }
         f += 1;
     }
-    let last = make_idle(v, k, budget - made);
+    let last = store_empty_record(v, k, 0, budget - made);
     Run {
         made: made + last.made,
         crashed: last.crashed,

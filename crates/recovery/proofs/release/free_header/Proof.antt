@@ -1,6 +1,5 @@
 -- `free_header` meets its contract: the header as read, with holder 0, and its map redone if so told.
 use mathlib.Core.Path.{_∙_}
-use Prim.Native.Nat.{_-_}
 use borrow.Author.Needs.{needs}
 use Rattle.recovery.proofs.HeaderLaws.{header-read, record-read, count-few, pages-low, pages-inside}
 use Rattle.recovery.proofs.release.free_header.Statement.{statement}

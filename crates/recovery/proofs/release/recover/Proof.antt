@@ -1,6 +1,5 @@
 -- `recover` meets its contract, by the three states that a known record has.
 use mathlib.Core.Path.{sym, _∙_}
-use Prim.Native.Nat.{_-_}
 use native.Mathlib.Omega.{arith}
 use borrow.Author.Needs.{needs}
 use Rattle.volume.specs.Volumes.{view}

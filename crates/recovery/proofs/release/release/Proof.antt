@@ -80,11 +80,11 @@ loop-again c =
     (λ w. rw (w .2) (turn-stored (s .pre .0) (at .loop .inv) (omega arith) _ (ro .release-one .ensures) (w .1 .given .1)))
     (c .match .came)
 
-sub-make-idle : tie.Need-sub-make-idle Inv-loop μ-loop
-sub-make-idle c = search needs
+sub-store-empty-record : tie.Need-sub-store-empty-record Inv-loop μ-loop
+sub-store-empty-record c = search needs
 
-make-idle-requires : tie.Need-make-idle-requires Inv-loop μ-loop
-make-idle-requires c κs =
+store-empty-record-requires : tie.Need-store-empty-record-requires Inv-loop μ-loop
+store-empty-record-requires c κs =
     let at = c .before .before in
     let s = at .before .before .before .before in
     (turn-known (s .pre .0) (at .loop .inv), rw (turn-table (s .pre .0) (at .loop .inv)) (s .pre .1))
@@ -94,7 +94,7 @@ add-t18 c =
     let mi = c .before .before .before in
     let at = mi .before .before .before in
     let s = at .before .before .before .before in
-    omega (arith, turn-end (s .pre .0) (at .loop .inv) (omega arith) (mi .make-idle .ensures) .room, s .fits .budget)
+    omega (arith, turn-end (s .pre .0) (at .loop .inv) (omega arith) (mi .store-empty-record .ensures) .room, s .fits .budget)
 
 same-length-2 : tie.Need-same-length-2 Inv-loop μ-loop
 same-length-2 c =
@@ -105,7 +105,7 @@ returns-2 : tie.Need-returns-2 Inv-loop μ-loop
 returns-2 c =
     let mi = c .before .before .before in
     let at = mi .before .before .before in
-    turn-end (at .before .before .before .before .pre .0) (at .loop .inv) (omega arith) (mi .make-idle .ensures)
+    turn-end (at .before .before .before .before .pre .0) (at .loop .inv) (omega arith) (mi .store-empty-record .ensures)
 
 pub release-spec : {M : Type 1} → statement M
 release-spec =
@@ -126,8 +126,8 @@ release-spec =
     add-f
     loop-less
     loop-again
-    sub-make-idle
-    make-idle-requires
+    sub-store-empty-record
+    store-empty-record-requires
     add-t18
     same-length-2
     returns-2)

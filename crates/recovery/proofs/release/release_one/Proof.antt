@@ -1,8 +1,8 @@
 -- `release_one` meets its contract: one store, if the client holds the file and the budget has one.
 use mathlib.Core.Path.{sym, _∙_}
-use Prim.Native.Nat.{_-_}
 use borrow.Author.Needs.{needs}
 use Rattle.volume.specs.Volumes.{view}
+use Rattle.recovery.specs.Work.{freed}
 use Rattle.recovery.proofs.MadeLaws.{made-none, made-short, made-one}
 use Rattle.recovery.proofs.ReleaseLaws.{release-none, release-held}
 use Rattle.recovery.proofs.release.release_one.Statement.{statement}
@@ -55,7 +55,7 @@ returns-3 c =
     let s = h .before .before .before in
     let a = s .args in
     rw (release-held (a .redo) (view (a .v .now)) (a .k) (a .f) (sym (h .holder .ensures) ∙ n .before .if1 .left))
-    (made-one _ (n .if2 .left) (st .store-header .ensures _ (fh .free-header .ensures .0)))
+    (made-one _ (n .if2 .left) (st .store-header .ensures (freed (a .redo) (view (a .v .now)) (a .k) (a .f)) (fh .free-header .ensures .0)))
 
 pub release-one-spec : {M : Type 1} → statement M
 release-one-spec =

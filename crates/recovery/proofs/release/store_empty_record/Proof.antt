@@ -1,9 +1,8 @@
--- `make_idle` meets its contract: one store, if the budget has one.
-use Prim.Native.Nat.{_-_}
+-- `store_empty_record` meets its contract: one store, if the budget has one.
 use borrow.Author.Needs.{needs}
 use Rattle.recovery.proofs.MadeLaws.{made-short, made-one}
-use Rattle.recovery.proofs.release.make_idle.Statement.{statement}
-use Rattle.recovery.proofs.release.make_idle.Tie as tie
+use Rattle.recovery.proofs.release.store_empty_record.Statement.{statement}
+use Rattle.recovery.proofs.release.store_empty_record.Tie as tie
 
 returns : tie.Need-returns
 returns c = made-short _ (c .if1 .taken)
@@ -29,8 +28,8 @@ returns-2 c =
     let er = st .before .before .before in
     made-one _ (er .before .before .before .if1 .left) (st .store-record .ensures _ (er .empty-record .ensures .0))
 
-pub make-idle-spec : {M : Type 1} → statement M
-make-idle-spec =
+pub store-empty-record-spec : {M : Type 1} → statement M
+store-empty-record-spec =
     tie.close
     (tie.spec
     returns

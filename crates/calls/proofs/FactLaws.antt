@@ -1,0 +1,67 @@
+-- What the stores of a call rely on, from its tests, none of which held.
+use mathlib.Core.Path.{_≡_, refl, sym, _∙_}
+use mathlib.Core.Bool.{true, false}
+use Prim.Native.Nat.{ℕ, _≤_}
+use native.Mathlib.Omega.{arith}
+use Rattle.interface.specs.declared.Session.{Session}
+use Rattle.sector.specs.Lists.{first}
+use Rattle.sector.specs.Contents.{Table, Record}
+use Rattle.sector.specs.Sectors.{Volume}
+use Rattle.volume.specs.Places.{IsClient, IsFile}
+use Rattle.volume.specs.Views.{View}
+use Rattle.volume.specs.Volumes.{view}
+use Rattle.volume.specs.Sound.{sound}
+use Rattle.volume.specs.Known.{Known}
+use Rattle.volume.proofs.LawfulLaws.{HeaderFacts}
+use Rattle.volume.proofs.KnownLaws.{sound-known}
+use Rattle.volume.proofs.ReadLaws.{few-clients}
+use Rattle.rules.specs.Sessions.{isActive}
+use Rattle.rules.specs.Plans.{Call, begin, openFile, commit, abort}
+use Rattle.rules.specs.Refusals.{tests}
+use Rattle.rules.proofs.AllowedLaws.{allowed, allowed-sound}
+
+-- The volume is known, whatever the call.
+pub call-known : (v : Volume) (s : Session) (c : Call) → 0 ≡ first (tests (sound v) (view v) s c) → Known v
+call-known v s c e = sound-known v (allowed-sound v s c (sym e))
+
+-- The tests of commit and of abort are the same.
+pub same-tests : (v : Volume) (s : Session) (k : ℕ) → first (tests (sound v) (view v) s (commit k)) ≡ first (tests (sound v) (view v) s (abort k))
+unfolding tests
+same-tests v s k = refl
+
+-- A client that may begin.
+pub record Begins (v : Volume) (s : Session) (k : ℕ) : Type 0 where
+  pub client : IsClient (view v .table) k
+  pub few : k ≤ 4
+  pub off : isActive s k ≡ false
+
+pub begins : (v : Volume) (s : Session) (k : ℕ) → 0 ≡ first (tests (sound v) (view v) s (begin k)) → Begins v s k
+begins v s k e =
+    let w = allowed v s (begin k) (sym e) in
+    record {
+      client = record { low = w .low; high = w .high };
+      few = omega (arith, w .high, few-clients v (call-known v s (begin k) e));
+      off = w .off;
+    }
+
+-- A client that is active.
+pub record Acts (v : Volume) (k : ℕ) : Type 0 where
+  pub client : IsClient (view v .table) k
+  pub few : k ≤ 4
+  pub running : view v .records k .state ≡ 1
+
+pub acts : (v : Volume) (s : Session) (k : ℕ) → 0 ≡ first (tests (sound v) (view v) s (commit k)) → Acts v k
+acts v s k e =
+    let w = allowed v s (commit k) (sym e) in
+    record {
+      client = record { low = w .active .low; high = w .running .client };
+      few = w .active .high;
+      running = w .running .state;
+    }
+
+-- A file that may be opened.
+pub opens : (v : Volume) (s : Session) (k f : ℕ) → 0 ≡ first (tests (sound v) (view v) s (openFile k f))
+    → IsFile (view v .table) f × HeaderFacts (view v .table) (view v .records) f (view v .headers f)
+opens v s k f e =
+    let w = allowed v s (openFile k f) (sym e) in
+    (w .file, w .act .ready .laws .headers f (w .file))

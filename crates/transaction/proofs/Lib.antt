@@ -1,0 +1,4 @@
+pub mod BeginLaws
+pub mod OpenLaws
+pub mod WriteLaws
+pub mod CommitLaws

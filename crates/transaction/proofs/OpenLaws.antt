@@ -1,0 +1,84 @@
+-- Open's updates by the file's holder, and that the header stored after a recovery has the map which the plan says.
+use mathlib.Core.Path.{_≡_, sym, ap, _∙_}
+use mathlib.Core.Bool.{Bool, true, false}
+use mathlib.Core.List.{[], _∷_, _++_}
+use mathlib.Core.Logic.{_≢_}
+use Prim.Native.Nat.{ℕ, _+_, _-_}
+use native.Mathlib.Omega.{arith}
+use borrow.Author.Tests.{eq-eqb, ne-eqb}
+use Rattle.interface.specs.declared.Session.{Session}
+use Rattle.sector.specs.Contents.{Header}
+use Rattle.sector.specs.Sectors.{Volume}
+use Rattle.volume.specs.Places.{IsClient, IsFile}
+use Rattle.volume.specs.Views.{View, setHeader}
+use Rattle.volume.specs.Volumes.{view}
+use Rattle.volume.specs.Known.{Known}
+use Rattle.volume.proofs.LawfulLaws.{HeaderFacts}
+use Rattle.rules.specs.Recovery.{isDecided, mapAfter, recovery}
+use Rattle.rules.specs.Plans.{openFile, openPlan, plan}
+use Rattle.recovery.specs.Budget.{Made}
+use Rattle.recovery.specs.Work.{recoveryNow}
+use Rattle.recovery.proofs.MadeLaws.{Suits, made-cut, made-known, made-view, made-table, made-more}
+use Rattle.recovery.proofs.WorkLaws.{now-live}
+use Rattle.recovery.proofs.RecoveredLaws.{recovery-suits, recovered-header}
+
+module _ (a : View) (s : Session) (k f : ℕ) where
+  pub own-plan : a .headers f .holder ≡ k → plan a s (openFile k f) ≡ []
+  unfolding plan openPlan
+  own-plan e = rw (eq-eqb _ k e)
+
+  pub free-plan : a .headers f .holder ≢ k → a .headers f .holder ≡ 0
+      → plan a s (openFile k f) ≡ setHeader f (record { holder = k; map = a .headers f .map }) ∷ []
+  unfolding plan openPlan
+  free-plan n e = rw (ne-eqb _ k n, eq-eqb _ 0 e)
+
+  held-plan : a .headers f .holder ≢ k → a .headers f .holder ≢ 0
+      → plan a s (openFile k f) ≡ recovery (isDecided a (a .headers f .holder)) a (a .headers f .holder)
+      ++ (setHeader f (record { holder = k; map = mapAfter (isDecided a (a .headers f .holder)) a (a .headers f .holder) f }) ∷ [])
+  unfolding plan openPlan
+  held-plan n z = rw (ne-eqb _ k n, ne-eqb _ 0 z)
+
+-- Another client, h, holds the file.
+module _ (v : Volume) (known : Known v) (k f h : ℕ) (file : IsFile (view v .table) f)
+    (facts : HeaderFacts (view v .table) (view v .records) f (view v .headers f)) (e : view v .headers f .holder ≡ h) (n : h ≢ k) (z : h ≢ 0) where
+  some : view v .headers f .holder ≢ 0
+  some = rw e z
+
+  pub holder-client : IsClient (view v .table) h
+  holder-client = rw (sym e) (record { low = omega (arith, some); high = facts .holder some .client })
+
+  abbrev redo : Bool
+  redo = isDecided (view v) h
+
+  recovered : recoveryNow (view v) h ≡ recovery redo (view v) h
+  recovered = now-live (view v) h (rw e at (facts .holder some .live))
+
+  whole : (s : Session) → plan (view v) s (openFile k f)
+      ≡ recovery redo (view v) h ++ (setHeader f (record { holder = k; map = mapAfter redo (view v) h f }) ∷ [])
+  whole s = rw e at (held-plan (view v) s k f (rw e n) some)
+
+  suits : Suits (view v .table) (recovery redo (view v) h)
+  suits = recovery-suits v known h holder-client redo
+
+  module _ {budget : ℕ} {w : Volume} {m : ℕ} where
+    pub open-cut : Made budget v (recoveryNow (view v) h) w m true → (s : Session) → Made budget v (plan (view v) s (openFile k f)) w m true
+    open-cut r s = rw (whole s) (made-cut _ _ (rw recovered at r))
+
+    module _ (r : Made budget v (recoveryNow (view v) h) w m false) where
+      all-made : Made budget v (recovery redo (view v) h) w m false
+      all-made = rw recovered at r
+
+      pub claim-known : Known w
+      claim-known = made-known _ known suits all-made
+
+      pub claim-file : IsFile (view w .table) f
+      claim-file = rw (made-table _ known suits all-made) file
+
+      map-now : view w .headers f .map ≡ mapAfter redo (view v) h f
+      map-now = ap (λ (x : Header). x .map)
+          (ap (λ (a : View). a .headers f) (made-view _ known suits all-made) ∙ recovered-header redo (view v) h f file e)
+
+      pub open-more : {u : Volume} {l : ℕ} {crashed : Bool}
+          → Made (budget - m) w (setHeader f (record { holder = k; map = view w .headers f .map }) ∷ []) u l crashed
+          → (s : Session) → Made budget v (plan (view v) s (openFile k f)) u (m + l) crashed
+      open-more q s = rw (whole s) (made-more _ known suits all-made _ (rw map-now at q))

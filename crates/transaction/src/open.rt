@@ -1,0 +1,54 @@
+// Open.
+ghost use mathlib.Core.Path.{_≡_};
+ghost use mathlib.Core.List.{[], _∷_};
+ghost use Rattle.interface.specs.declared.Session.{Session};
+ghost use Rattle.volume.specs.Places.{IsFile};
+ghost use Rattle.volume.specs.Views.{setHeader};
+ghost use Rattle.volume.specs.Volumes.{view};
+ghost use Rattle.volume.specs.Known.{Known};
+ghost use Rattle.volume.proofs.LawfulLaws.{HeaderFacts};
+ghost use Rattle.rules.specs.Plans.{openFile, plan};
+ghost use Rattle.recovery.specs.Budget.{Made};
+use recovery::Run;
+
+// File f's header is stored with holder k and the map that it has.
+fn claim(v: &mut [u8], k: u8, f: u8, left: u8) -> Run
+    requires { ⌜ Known (now v) × IsFile (view (now v) .table) f ⌝ }
+    ensures { λ r. ⌜ Made left (now (v .entry)) (setHeader f (record { holder = k; map = view (now (v .entry)) .headers f .map }) ∷ [])
+        (now (v .exit)) (r .made) (r .crashed) ⌝ }
+{
+    if left == 0 {
+        return Run::SHORT;
+    }
+    let mut buf = sector::zeros();
+    sector::load(&mut buf, volume::header(v, f));
+    sector::set_holder(&mut buf, k);
+    volume::store_header(v, f, &buf);
+    Run::ONE
+}
+
+// The stores of open for client k and file f: none if k holds it. Another holder, whose transaction is orphaned, is
+// recovered; then the header has holder k and the map after that recovery.
+pub fn open_stores(v: &mut [u8], k: u8, f: u8, budget: u8) -> Run
+    requires { ⌜ Known (now v) × IsFile (view (now v) .table) f
+        × HeaderFacts (view (now v) .table) (view (now v) .records) f (view (now v) .headers f) ⌝ }
+    ensures { λ r. ⌜ ((s : Session)
+        → Made budget (now (v .entry)) (plan (view (now (v .entry))) s (openFile k f)) (now (v .exit)) (r .made) (r .crashed)) ⌝ }
+{
+    let holder = volume::holder(v, f);
+    if holder == k {
+        return Run::NONE;
+    }
+    if holder == 0 {
+        return claim(v, k, f, budget);
+    }
+    let first = recovery::recover(v, holder, budget);
+    if first.crashed {
+        return first;
+    }
+    let last = claim(v, k, f, budget - first.made);
+    Run {
+        made: first.made + last.made,
+        crashed: last.crashed,
+    }
+}
