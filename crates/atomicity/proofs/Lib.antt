@@ -7,3 +7,5 @@ pub mod StepLaws
 pub mod Theorem
 pub mod ReturnLaws
 pub mod NotHollow
+pub mod FreshLaws
+pub mod Progress

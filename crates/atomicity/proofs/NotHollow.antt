@@ -47,14 +47,14 @@ pub record Steady (v : Volume) (s : Session) : Type 0 where
   pub session : sessionFits (view v) s ≡ true
   pub marks : length (s .active) ≡ 4
 
-new-steady : (v : Volume) → sound v ≡ true → Steady v newSession
+pub new-steady : (v : Volume) → sound v ≡ true → Steady v newSession
 new-steady v ok = record { volume = ok; session = new-fits (view v); marks = refl }
 
 given-steady : (v : Volume) (s : Session) (crash : Bool) → Steady v s → Steady v (given crash s)
 given-steady v s true h = new-steady v (h .volume)
 given-steady v s false h = h
 
-call-steady : (v : Volume) (s : Session) → Steady v s → (c : Call) (budget : ℕ)
+pub call-steady : (v : Volume) (s : Session) → Steady v s → (c : Call) (budget : ℕ)
     → let x = call v s c budget in Steady (x .volume) (x .session)
 call-steady v s h c budget = call-case (λ (x : After). Steady (x .volume) (x .session)) v s c budget (λ n e. h) ended
     (λ e. new-steady _ (prefix-sound v (h .volume) (lawful-along v s c e) budget))
