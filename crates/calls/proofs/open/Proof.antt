@@ -1,70 +1,56 @@
+-- `open` meets its contract: a refusal is the call's, and so are the stores of its plan.
+use mathlib.Core.Path.{_≡_, sym, ap, _∙_}
 use borrow.Author.Needs.{needs}
-use native.Mathlib.Omega.{arith}
-use Prim.Native.Nat.{ℕ, suc, _+_, _*_, _-_, _≤_, _<_}
-use mathlib.Core.Path.{_≡_, refl, sym, ap, _∙_}
-use mathlib.Core.List.{List, [], _∷_, _++_}
-use mathlib.Core.Logic.{⊎-elim}
-use lib.ListN.{length, take, drop, getD, set, length-set}
+use Rattle.rules.specs.Plans.{openFile}
+use Rattle.calls.proofs.FactLaws.{call-known, opens}
+use Rattle.checks.specs.Verdicts.{numberOf}
+use Rattle.calls.proofs.AnswerLaws.{refused-call, ended-call}
 use Rattle.calls.proofs.open.Statement.{statement}
 use Rattle.calls.proofs.open.Tie as tie
-use Rattle.calls.proofs.open.Reads as reads
-use Rattle.calls.proofs.open.Lts as lts
-use Rattle.calls.proofs.reply.end.Reads as end-reads
-use Rattle.calls.proofs.reply.refuse.Reads as refuse-reads
-use Rattle.checks.proofs.check_open.Reads as check-open-reads
-use Rattle.transaction.proofs.open_stores.Reads as open-stores-reads
 
--- src/lib.rt:34:11
 check-open-requires : tie.Need-check-open-requires
 check-open-requires c κs = search needs
 
--- src/lib.rt:35:26
 enum-known-r : tie.Need-enum-known-r
 enum-known-r c = search needs
 
--- src/lib.rt:35:32
 refuse-requires : tie.Need-refuse-requires
 refuse-requires c κs = search needs
 
--- src/lib.rt:36:59
 enum-told : tie.Need-enum-told
 enum-told c = search needs
 
--- src/lib.rt:36:34
 open-stores-requires : tie.Need-open-stores-requires
-open-stores-requires c κs = search needs
+open-stores-requires c κs =
+    let q = c .before .before .before in
+    let s = q .before .before .before in
+    let e = (ap numberOf (sym (c .before .enum-told .given .1)) ∙ q .check-open .ensures) in
+    let w = opens (s .args .v .now) (s .args .s) (s .args .k) (s .args .f) e in
+    (call-known (s .args .v .now) (s .args .s) (openFile (s .args .k) (s .args .f)) e, w .0, w .1)
 
--- src/lib.rt:36:30
 end-requires : tie.Need-end-requires
 end-requires c κs = search needs
 
--- src/lib.rt:31:1
 same-length : tie.Need-same-length
 same-length c = search needs
 
--- src/lib.rt:31:1
 returns : tie.Need-returns
-returns c = search needs
+returns c =
+    let q = c .before .before .before .before in
+    let s = q .before .before .before in
+    let r = c .before .before .r .given in
+    c .refuse .ensures (s .args .v .now) ∙ refused-call (s .args .v .now) (s .args .s) (openFile (s .args .k) (s .args .f)) (s .args .budget) (r .0 .0) (ap numberOf (sym (r .1)) ∙ q .check-open .ensures)
 
--- src/lib.rt:31:1
 same-length-2 : tie.Need-same-length-2
 same-length-2 c = search needs
 
--- src/lib.rt:31:1
 returns-2 : tie.Need-returns-2
-returns-2 c = search needs
+returns-2 c =
+    let b = c .before .before .before in
+    let q = b .before .before .before .before in
+    let s = q .before .before .before in
+    let e = (ap numberOf (sym (b .before .before .enum-told .given .1)) ∙ q .check-open .ensures) in
+    c .end .ensures (b .open-stores .last .0) ∙ (ended-call (s .args .v .now) (s .args .s) (openFile (s .args .k) (s .args .f)) (s .args .budget) e (b .open-stores .last .0) (b .open-stores .result .made) (b .open-stores .result .crashed) (b .open-stores .ensures (s .args .s)))
 
 pub open-spec : {M : Type 1} → statement M
-open-spec =
-    tie.close
-    (tie.spec
-    check-open-requires
-    enum-known-r
-    refuse-requires
-    enum-told
-    open-stores-requires
-    end-requires
-    same-length
-    returns
-    same-length-2
-    returns-2)
+open-spec = tie.close (tie.spec check-open-requires enum-known-r refuse-requires enum-told open-stores-requires end-requires same-length returns same-length-2 returns-2)
