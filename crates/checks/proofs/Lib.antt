@@ -1,1 +1,3 @@
 pub mod VerdictLaws
+pub mod SlotLaws
+pub mod WriteLaws

@@ -1,6 +1,6 @@
 -- A call's tests, one part after the other: the first part that refuses decides, and the next one where none of it does. Every
 -- refusal has a number, so a part that gives 0 refuses nothing.
-use mathlib.Core.Path.{_≡_, refl, sym, _∙_}
+use mathlib.Core.Path.{_≡_, refl, sym}
 use mathlib.Core.Bool.{Bool, true, false}
 use mathlib.Core.List.{List, [], _∷_, _++_}
 use Prim.Native.Nat.{ℕ, _≤_}

@@ -1,1 +1,3 @@
 pub mod Verdicts
+pub mod Slots
+pub mod Writes

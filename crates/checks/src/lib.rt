@@ -1,6 +1,7 @@
 // The tests of the calls: each answers the first refusal that applies, or that none does.
 mod call;
 mod session;
+mod write;
 
 pub use call::check_active;
 pub use call::check_begin;
@@ -10,9 +11,26 @@ use interface::Refusal;
 pub use session::is_active;
 pub use session::session_fits;
 pub use session::set_active;
+pub use write::check_write;
+pub use write::read_slot;
 
 // What the tests of a call found.
 pub enum Verdict {
     Accepted,
     Refused(Refusal),
+}
+
+// What a search for a slot found.
+pub enum Found {
+    Slot(u8),
+    Nothing,
+}
+
+// What the tests of write found: a refusal, or where the page goes.
+pub enum WriteVerdict {
+    Refused(Refusal),
+    // The slot that the record has for the page already.
+    Again(u8),
+    // The slot that a new entry takes.
+    New(u8),
 }

@@ -1,11 +1,11 @@
 -- The table and a header, built in a sector of zeros: the fixed bytes at the front by computation, then what is put behind
 -- them, an entry for each file or a slot for each page. A loop keeps that what is still to be put makes up the whole.
-use mathlib.Core.Path.{_≡_, refl, ap, sym, _∙_}
-use mathlib.Core.List.{List, [], _∷_, _++_}
+use mathlib.Core.Path.{_≡_, refl, ap}
+use mathlib.Core.List.{[], _∷_, _++_}
 use Prim.Native.Nat.{ℕ, zero, suc, _+_, _*_, _-_, _/_, _%_, _≤_, _<_}
 use native.Mathlib.Numerals.{add-one}
 use native.Mathlib.Omega.{arith}
-use lib.ListN.{length, drop, set, replicate}
+use lib.ListN.{length, drop, set}
 use Rattle.sector.specs.Lists.{from}
 use Rattle.sector.specs.Contents.{Bytes, File}
 use Rattle.sector.specs.Sectors.{wordBytes, zeroSector, padded}

@@ -1,7 +1,7 @@
 -- The new volume, laid out sector by sector in an array of zeros: the table, the records, then each file's header, behind
 -- which its slots are zeros already. A loop keeps that what is still to be laid out makes up the whole. The array's length is
 -- that of the new volume, so that the zeros left at the end are its last sectors.
-use mathlib.Core.Path.{_≡_, refl, sym, _∙_}
+use mathlib.Core.Path.{_≡_, refl, _∙_}
 use mathlib.Core.Bool.{true}
 use mathlib.Core.List.{List, [], _∷_, _++_, append-assoc}
 use Prim.Native.Nat.{ℕ, zero, suc, _+_, _*_, _-_, _/_, _≤_, _<_}
@@ -17,7 +17,7 @@ use Rattle.sector.proofs.CodecLaws.{table-length, record-length, header-length}
 use Rattle.volume.specs.Places.{sectorAfter, endSector}
 use Rattle.volume.specs.Lawful.{fileFits}
 use Rattle.volume.specs.Format.{filesOf, repeated, newFiles, newVolume}
-use Rattle.volume.proofs.PlaceLaws.{after-least, end-low}
+use Rattle.volume.proofs.PlaceLaws.{after-least}
 use Rattle.format.specs.Requests.{pairAt}
 use Rattle.format.specs.Puts.{Puts}
 use Rattle.format.proofs.PutsLaws.{puts-zeros, puts-more, puts-store}

@@ -1,7 +1,7 @@
 -- Bytes put where there were zeros: one byte, a sector, zeros (nothing has to be done), and bytes behind others.
 -- Each by splitting the zeros into those that are replaced and those that are left.
 use mathlib.Core.Path.{_≡_, sym, _∙_}
-use mathlib.Core.List.{List, [], _∷_, _++_, append-assoc}
+use mathlib.Core.List.{[], _∷_, _++_, append-assoc}
 use Prim.Native.Nat.{ℕ, suc, _+_, _*_}
 use native.Mathlib.Omega.{arith}
 use lib.ListN.{length, drop, set, replicate, length-append, length-replicate, replicate-append-replicate}

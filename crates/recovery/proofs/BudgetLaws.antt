@@ -2,6 +2,7 @@
 use mathlib.Core.Path.{_≡_, refl, sym, ap, _∙_}
 use mathlib.Core.Bool.{Bool, true, false}
 use mathlib.Core.List.{List, [], _∷_, _++_}
+use mathlib.Core.Logic.{_≢_}
 use Prim.Native.Nat.{ℕ, _+_, _-_, _≤_, _<_}
 use native.Mathlib.Omega.{arith}
 use borrow.Author.Tests.{ltb-true, ltb-false, lt-ltb, le-ltb}
@@ -13,27 +14,27 @@ use Rattle.sector.proofs.CaseLaws.{by-test}
 use Rattle.volume.specs.Stores.{Store, stored}
 use Rattle.recovery.specs.Budget.{Ran}
 
-pub stored-append : (xs ys : List Store) (v : Volume) → stored v (xs ++ ys) ≡ stored (stored v xs) ys
+stored-append : (xs ys : List Store) (v : Volume) → stored v (xs ++ ys) ≡ stored (stored v xs) ys
 unfolding stored
 stored-append [] ys v = refl
 stored-append (x ∷ xs) ys v = stored-append xs ys (storeAt v (x .target) (x .bytes))
 
 -- ------------------------------------------------------------------ none and one
-pub ran-none : (budget : ℕ) (v : Volume) → Ran budget [] v v 0 false
+pub ran-none : {budget : ℕ} {v : Volume} → Ran budget [] v v 0 false
 unfolding stored
-ran-none budget v = record {
+ran-none {budget} = record {
   volume = rw (take-nil {A = Store} budget);
   count = rw (take-nil {A = Store} budget);
   room = omega arith;
   over = sym (le-ltb budget 0 (omega arith));
 }
 
-module _ (budget : ℕ) (x : Store) (v : Volume) where
+module _ {budget : ℕ} {x : Store} {v : Volume} where
   pub ran-short : budget ≡ 0 → Ran budget (x ∷ []) v v 0 true
   unfolding stored
   ran-short z = rw z (record { volume = refl; count = refl; room = omega arith; over = refl })
 
-  pub ran-one : (budget ≡ 0 → ⊥) → Ran budget (x ∷ []) v (storeAt v (x .target) (x .bytes)) 1 false
+  pub ran-one : budget ≢ 0 → Ran budget (x ∷ []) v (storeAt v (x .target) (x .bytes)) 1 false
   unfolding stored
   ran-one z =
       let t : take budget (x ∷ []) ≡ x ∷ [] = take-all budget (x ∷ []) (omega arith) in
@@ -44,10 +45,10 @@ same-test : (x y p q : ℕ) → (x < y → p < q) → (y ≤ x → q ≤ p) → 
 same-test x y p q f g = by-test (ltb x y)
     (λ e. e ∙ sym (lt-ltb p q (f (ltb-true x y e)))) (λ e. e ∙ sym (le-ltb p q (g (ltb-false x y e))))
 
-module _ (budget : ℕ) (xs ys : List Store) (v w : Volume) (m : ℕ) where
+module _ {budget : ℕ} {xs : List Store} {v w : Volume} {m : ℕ} where
   -- A crash in the first run.
-  pub ran-cut : Ran budget xs v w m true → Ran budget (xs ++ ys) v w m true
-  ran-cut r =
+  pub ran-cut : (ys : List Store) → Ran budget xs v w m true → Ran budget (xs ++ ys) v w m true
+  ran-cut ys r =
       let h : budget < length xs = ltb-true budget (length xs) (sym (r .over)) in
       let e : take budget (xs ++ ys) ≡ take budget xs = take-append-le budget xs ys (omega arith) in
       let l : length (xs ++ ys) ≡ length xs + length ys = length-append xs ys in
@@ -58,9 +59,9 @@ module _ (budget : ℕ) (xs ys : List Store) (v w : Volume) (m : ℕ) where
   ran-whole r = take-all budget xs (ltb-false budget (length xs) (sym (r .over)))
 
   -- The second run has what is left of the budget.
-  pub ran-more : Ran budget xs v w m false → (u : Volume) (n : ℕ) (crashed : Bool) → Ran (budget - m) ys w u n crashed
+  pub ran-more : {ys : List Store} {u : Volume} {n : ℕ} {crashed : Bool} → Ran budget xs v w m false → Ran (budget - m) ys w u n crashed
       → Ran budget (xs ++ ys) v u (m + n) crashed
-  ran-more r u n crashed q =
+  ran-more {ys} r q =
       let first : m ≡ length xs = r .count ∙ ap length (ran-whole r) in
       let both : budget ≡ length xs + (budget - m) = omega (arith, r .room) in
       let e : take budget (xs ++ ys) ≡ xs ++ take (budget - m) ys

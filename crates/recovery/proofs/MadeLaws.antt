@@ -3,6 +3,7 @@
 use mathlib.Core.Path.{_≡_, refl, ap, _∙_}
 use mathlib.Core.Bool.{Bool, true, false}
 use mathlib.Core.List.{List, [], _∷_, _++_}
+use mathlib.Core.Logic.{_≢_}
 use Prim.Native.Nat.{ℕ, _+_, _-_}
 use Rattle.sector.specs.Contents.{Table}
 use Rattle.sector.specs.Sectors.{Volume}
@@ -18,7 +19,7 @@ use Rattle.volume.proofs.KnownLaws.{Fits, known-shaped, known-updated}
 use Rattle.recovery.specs.Budget.{Made}
 use Rattle.recovery.proofs.BudgetLaws.{ran-none, ran-short, ran-one, ran-cut, ran-whole, ran-more}
 
-pub stores-append : (t : Table) (xs ys : List Update) → allStores t (xs ++ ys) ≡ allStores t xs ++ allStores t ys
+stores-append : (t : Table) (xs ys : List Update) → allStores t (xs ++ ys) ≡ allStores t xs ++ allStores t ys
 unfolding allStores
 stores-append t [] ys = refl
 stores-append t (x ∷ xs) ys = ap (λ (l : List Store). storesOf t x ++ l) (stores-append t xs ys)
@@ -51,27 +52,27 @@ known-stored t (x ∷ xs) v e known p =
     known-stored t xs (updated t v x) same next (p .2)
 
 -- ------------------------------------------------------------------ none and one
-pub made-none : (budget : ℕ) (v : Volume) → Made budget v [] v 0 false
+pub made-none : {budget : ℕ} {v : Volume} → Made budget v [] v 0 false
 unfolding allStores
-made-none budget v = ran-none budget v
+made-none = ran-none
 
 module _ {budget : ℕ} {v : Volume} (x : Update) where
   pub made-short : budget ≡ 0 → Made budget v (x ∷ []) v 0 true
   unfolding allStores
-  made-short z = ran-short budget _ v z
+  made-short z = ran-short z
 
-  pub made-one : {w : Volume} → (budget ≡ 0 → ⊥) → w ≡ updated (view v .table) v x → Made budget v (x ∷ []) w 1 false
+  pub made-one : {w : Volume} → budget ≢ 0 → w ≡ updated (view v .table) v x → Made budget v (x ∷ []) w 1 false
   unfolding allStores
-  made-one z e = rw e (ran-one budget _ v z)
+  made-one z e = rw e (ran-one z)
 
 -- ------------------------------------------------------------------ one run after the other
 module _ {budget : ℕ} {v : Volume} (xs : List Update) {w : Volume} {m : ℕ} where
   pub made-cut : (ys : List Update) → Made budget v xs w m true → Made budget v (xs ++ ys) w m true
-  made-cut ys r = rw (stores-append (view v .table) xs ys) (ran-cut budget _ _ v w m r)
+  made-cut ys r = rw (stores-append (view v .table) xs ys) (ran-cut _ r)
 
   module _ (known : Known v) (suits : Suits (view v .table) xs) (r : Made budget v xs w m false) where
     made-stored : w ≡ stored v (allStores (view v .table) xs)
-    made-stored = r .volume ∙ ap (stored v) (ran-whole budget _ [] v w m r)
+    made-stored = r .volume ∙ ap (stored v) (ran-whole r)
 
     pub made-known : Known w
     made-known = rw made-stored (known-stored (view v .table) xs v refl known suits)
@@ -84,5 +85,4 @@ module _ {budget : ℕ} {v : Volume} (xs : List Update) {w : Volume} {m : ℕ} w
 
     pub made-more : (ys : List Update) {u : Volume} {n : ℕ} {crashed : Bool} → Made (budget - m) w ys u n crashed
         → Made budget v (xs ++ ys) u (m + n) crashed
-    made-more ys {u} {n} {crashed} q =
-        rw (stores-append (view v .table) xs ys) (ran-more budget _ _ v w m r u n crashed (rw made-table at q))
+    made-more ys q = rw (stores-append (view v .table) xs ys) (ran-more r (rw made-table at q))

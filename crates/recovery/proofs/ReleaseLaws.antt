@@ -80,14 +80,14 @@ module _ (redo : Bool) (a : View) (k : ℕ) where
   release-other f g b n = if-test (λ (xs : List Update). changedBy b xs .headers g ≡ b .headers g) (holds a k f) _ []
       (λ e. rw (ne-eqb g f n)) (λ e. refl)
 
-  pub released-records : (n : ℕ) → changedBy a (released redo a k n) .records ≡ a .records
+  released-records : (n : ℕ) → changedBy a (released redo a k n) .records ≡ a .records
   unfolding released
   released-records zero = refl
   released-records (suc n) =
       ap (λ (b : View). b .records) (changed-append (released redo a k n) (releaseOf redo a k (suc n)) a)
       ∙ release-records (suc n) (changedBy a (released redo a k n)) ∙ released-records n
 
-  pub released-ahead : (n g : ℕ) → n < g → changedBy a (released redo a k n) .headers g ≡ a .headers g
+  released-ahead : (n g : ℕ) → n < g → changedBy a (released redo a k n) .headers g ≡ a .headers g
   unfolding released
   released-ahead zero g h = refl
   released-ahead (suc n) g h =
@@ -115,7 +115,7 @@ redone-length f [] m = refl
 redone-length f (e ∷ es) m = redone-length f es _
     ∙ if-test (λ (l : List ℕ). length l ≡ length m) (forFile f e) _ m (λ q. length-set m (e .page) (e .slot)) (λ q. refl)
 
-pub after-length : (redo : Bool) (a : View) (k f : ℕ) → length (mapAfter redo a k f) ≡ length (a .headers f .map)
+after-length : (redo : Bool) (a : View) (k f : ℕ) → length (mapAfter redo a k f) ≡ length (a .headers f .map)
 after-length true a k f = redone-length f (a .records k .entries) (a .headers f .map)
 after-length false a k f = refl
 
@@ -148,7 +148,7 @@ crash-later redo k n (suc d) (suc i) e r = made-cut _ _ (crash-later redo k n d 
 
 pub turn-start : (v : Volume) (redo : Bool) (k budget : ℕ) → Turn v redo k budget v 0 1
 unfolding released
-turn-start v redo k budget = record { low = omega arith; high = omega arith; run = made-none budget v }
+turn-start v redo k budget = record { low = omega arith; high = omega arith; run = made-none }
 
 module _ {v₀ : Volume} {redo : Bool} {k budget : ℕ} (known : Known v₀) {v : Volume} {made f : ℕ} (t : Turn v₀ redo k budget v made f) where
   suits : Suits (view v₀ .table) (released redo (view v₀) k (f - 1))

@@ -1,5 +1,5 @@
 -- Begin's updates: those of recovery by the record's state, then the open record.
-use mathlib.Core.Path.{_≡_, refl}
+use mathlib.Core.Path.{_≡_, refl, ap}
 use mathlib.Core.Bool.{Bool, true, false, not}
 use mathlib.Core.List.{List, [], _∷_, _++_}
 use Prim.Native.Nat.{ℕ}
@@ -12,10 +12,11 @@ use Rattle.rules.specs.Recovery.{isDecided, recovery}
 use Rattle.rules.specs.Plans.{begin, beginPlan, plan}
 use Rattle.recovery.specs.Work.{recoveryNow}
 
-pub begin-plan : (a : View) (s : Session) (k : ℕ) → isActive s k ≡ false → plan a s (begin k) ≡ recoveryNow a k ++ (setRecord k openRecord ∷ [])
+pub begin-plan : (a : View) (s : Session) (k : ℕ) → isActive s k ≡ false
+    → plan a s (begin k) ≡ recoveryNow a k ++ (setRecord k openRecord ∷ [])
 unfolding plan beginPlan recoveryNow
-begin-plan a s k off = rw off (go (isIdle (a .records k)) (recovery (isDecided a k) a k))
+begin-plan a s k off = rw off (ap (λ (l : List Update). l ++ (setRecord k openRecord ∷ [])) (go (isIdle (a .records k))))
   where
-    go : (b : Bool) (xs : List Update) → (if not b then xs else []) ++ (setRecord k openRecord ∷ []) ≡ (if b then [] else xs) ++ (setRecord k openRecord ∷ [])
-    go true xs = refl
-    go false xs = refl
+    go : (b : Bool) → (if not b then recovery (isDecided a k) a k else []) ≡ (if b then [] else recovery (isDecided a k) a k)
+    go true = refl
+    go false = refl

@@ -39,8 +39,9 @@ module _ (a : View) (s : Session) (k f : ℕ) where
   held-plan n z = rw (ne-eqb _ k n, ne-eqb _ 0 z)
 
 -- Another client, h, holds the file.
-module _ (v : Volume) (known : Known v) (k f h : ℕ) (file : IsFile (view v .table) f)
-    (facts : HeaderFacts (view v .table) (view v .records) f (view v .headers f)) (e : view v .headers f .holder ≡ h) (n : h ≢ k) (z : h ≢ 0) where
+module _ {v : Volume} (known : Known v) {k f h : ℕ} (file : IsFile (view v .table) f)
+    (facts : HeaderFacts (view v .table) (view v .records) f (view v .headers f)) (e : view v .headers f .holder ≡ h)
+    (n : h ≢ k) (z : h ≢ 0) where
   some : view v .headers f .holder ≢ 0
   some = rw e z
 
@@ -50,8 +51,8 @@ module _ (v : Volume) (known : Known v) (k f h : ℕ) (file : IsFile (view v .ta
   abbrev redo : Bool
   redo = isDecided (view v) h
 
-  recovered : recoveryNow (view v) h ≡ recovery redo (view v) h
-  recovered = now-live (view v) h (rw e at (facts .holder some .live))
+  now : recoveryNow (view v) h ≡ recovery redo (view v) h
+  now = now-live (view v) h (rw e at (facts .holder some .live))
 
   whole : (s : Session) → plan (view v) s (openFile k f)
       ≡ recovery redo (view v) h ++ (setHeader f (record { holder = k; map = mapAfter redo (view v) h f }) ∷ [])
@@ -62,23 +63,23 @@ module _ (v : Volume) (known : Known v) (k f h : ℕ) (file : IsFile (view v .ta
 
   module _ {budget : ℕ} {w : Volume} {m : ℕ} where
     pub open-cut : Made budget v (recoveryNow (view v) h) w m true → (s : Session) → Made budget v (plan (view v) s (openFile k f)) w m true
-    open-cut r s = rw (whole s) (made-cut _ _ (rw recovered at r))
+    open-cut r s = rw (whole s) (made-cut _ _ (rw now at r))
 
     module _ (r : Made budget v (recoveryNow (view v) h) w m false) where
-      all-made : Made budget v (recovery redo (view v) h) w m false
-      all-made = rw recovered at r
+      first : Made budget v (recovery redo (view v) h) w m false
+      first = rw now at r
 
-      pub claim-known : Known w
-      claim-known = made-known _ known suits all-made
+      pub recovered-known : Known w
+      recovered-known = made-known _ known suits first
 
-      pub claim-file : IsFile (view w .table) f
-      claim-file = rw (made-table _ known suits all-made) file
+      pub recovered-file : IsFile (view w .table) f
+      recovered-file = rw (made-table _ known suits first) file
 
       map-now : view w .headers f .map ≡ mapAfter redo (view v) h f
       map-now = ap (λ (x : Header). x .map)
-          (ap (λ (a : View). a .headers f) (made-view _ known suits all-made) ∙ recovered-header redo (view v) h f file e)
+          (ap (λ (a : View). a .headers f) (made-view _ known suits first) ∙ recovered-header redo (view v) h f file e)
 
       pub open-more : {u : Volume} {l : ℕ} {crashed : Bool}
           → Made (budget - m) w (setHeader f (record { holder = k; map = view w .headers f .map }) ∷ []) u l crashed
           → (s : Session) → Made budget v (plan (view v) s (openFile k f)) u (m + l) crashed
-      open-more q s = rw (whole s) (made-more _ known suits all-made _ (rw map-now at q))
+      open-more q s = rw (whole s) (made-more _ known suits first _ (rw map-now at q))

@@ -28,7 +28,7 @@ new-plan : (a : View) (s : Session) (k f p slot : ℕ) (d : Bytes) → NewPage a
 unfolding plan
 new-plan a s k f p slot d new = rw (new .absent, new .lowest)
 
-module _ {budget : ℕ} {v : Volume} (k f p slot : ℕ) (d : Bytes) (new : NewPage (view v) k f p slot) {w : Volume} {m : ℕ} where
+module _ {budget : ℕ} {v : Volume} {k f p slot : ℕ} (new : NewPage (view v) k f p slot) (d : Bytes) {w : Volume} {m : ℕ} where
   pub write-cut : Made budget v (setSlot f slot d ∷ []) w m true → (s : Session) → Made budget v (plan (view v) s (write k f p d)) w m true
   write-cut r s = rw (new-plan (view v) s k f p slot d new) (made-cut _ _ r)
 

@@ -15,7 +15,7 @@ ghost use Rattle.recovery.specs.Budget.{Made};
 ghost use Rattle.transaction.specs.Tested.{NewPage};
 use recovery::Run;
 
-// Slot r of file f is stored as src.
+// The slot of file f is stored as src.
 fn store_page(v: &mut [u8], f: u8, slot: u8, src: &[u8], left: u8) -> Run
     requires { ⌜ Known (now v) × IsFile (view (now v) .table) f × (slot < fileAt (view (now v) .table) f .slots) × (length (now src) ≡ 256) ⌝ }
     ensures { λ r. ⌜ Made left (now (v .entry)) (setSlot f slot (now (src .entry)) ∷ []) (now (v .exit)) (r .made) (r .crashed) ⌝ }

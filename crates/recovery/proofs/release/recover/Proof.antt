@@ -24,7 +24,7 @@ returns : tie.Need-returns
 returns c =
     let st = c .before in
     let a = st .before .before .before .args in
-    rw (now-idle (view (a .v .now)) (a .k) (sym (st .state .ensures) ∙ c .match .keys1)) (made-none (a .budget) (a .v .now))
+    rw (now-idle (view (a .v .now)) (a .k) (sym (st .state .ensures) ∙ c .match .keys1)) made-none
 
 same-length-2 : tie.Need-same-length-2
 same-length-2 c = search needs

@@ -19,7 +19,7 @@ returns c =
     let h = c .before in
     let s = h .before .before .before in
     let a = s .args in
-    rw (release-none (a .redo) (view (a .v .now)) (a .k) (a .f) (λ e. c .if1 .taken (h .holder .ensures ∙ e))) (made-none (a .left) (a .v .now))
+    rw (release-none (a .redo) (view (a .v .now)) (a .k) (a .f) (λ e. c .if1 .taken (h .holder .ensures ∙ e))) made-none
 
 same-length-2 : tie.Need-same-length-2
 same-length-2 c = search needs

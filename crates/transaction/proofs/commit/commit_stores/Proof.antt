@@ -25,7 +25,7 @@ recover-requires c κs =
     let d = n .before .before .before in
     let s = d .before .before .before in
     let made = rw (n .if1 .left) at (d .decide .ensures) in
-    (decided-known (s .args .k) (s .pre .0) (s .pre .1) made, decided-client (s .args .k) (s .pre .0) (s .pre .1) made)
+    (decided-known (s .pre .0) (s .pre .1) made, decided-client (s .pre .0) (s .pre .1) made)
 
 add-t11 : tie.Need-add-t11
 add-t11 c = search needs
@@ -39,7 +39,7 @@ returns-2 c =
     let n = r .before .before .before in
     let d = n .before .before .before in
     let s = d .before .before .before in
-    λ t. commit-more (s .args .k) (s .pre .0) (s .pre .1) (rw (n .if1 .left) at (d .decide .ensures)) (r .recover .ensures) t
+    λ t. commit-more (s .pre .0) (s .pre .1) (rw (n .if1 .left) at (d .decide .ensures)) (r .recover .ensures) t
 
 pub commit-stores-spec : {M : Type 1} → statement M
 commit-stores-spec =

@@ -3,7 +3,7 @@ use mathlib.Core.Path.{sym, _∙_}
 use borrow.Author.Needs.{needs}
 use Rattle.volume.specs.Volumes.{view}
 use Rattle.recovery.proofs.MadeLaws.{made-none}
-use Rattle.transaction.proofs.OpenLaws.{own-plan, free-plan, holder-client, open-cut, claim-known, claim-file, open-more}
+use Rattle.transaction.proofs.OpenLaws.{own-plan, free-plan, holder-client, open-cut, recovered-known, recovered-file, open-more}
 use Rattle.transaction.proofs.open.open_stores.Statement.{statement}
 use Rattle.transaction.proofs.open.open_stores.Tie as tie
 
@@ -17,7 +17,7 @@ returns : tie.Need-returns
 returns c =
     let h = c .before in
     let a = h .before .before .before .args in
-    λ t. rw (own-plan (view (a .v .now)) t (a .k) (a .f) (sym (h .holder .ensures) ∙ c .if1 .taken)) (made-none (a .budget) (a .v .now))
+    λ t. rw (own-plan (view (a .v .now)) t (a .k) (a .f) (sym (h .holder .ensures) ∙ c .if1 .taken)) made-none
 
 claim-requires : tie.Need-claim-requires
 claim-requires c κs = search needs
@@ -38,8 +38,7 @@ recover-requires c κs =
     let y = c .before in
     let h = y .before .before in
     let s = h .before .before .before in
-    let a = s .args in
-    (s .pre .0, holder-client (a .v .now) (s .pre .0) (a .k) (a .f) (h .holder .result) (s .pre .1) (s .pre .2) (sym (h .holder .ensures)) (y .before .if1 .left) (y .if2 .left))
+    (s .pre .0, holder-client (s .pre .0) (s .pre .1) (s .pre .2) (sym (h .holder .ensures)) (y .before .if1 .left) (y .if2 .left))
 
 same-length-3 : tie.Need-same-length-3
 same-length-3 c = search needs
@@ -50,8 +49,7 @@ returns-3 c =
     let y = r .before .before in
     let h = y .before .before in
     let s = h .before .before .before in
-    let a = s .args in
-    λ t. rw (c .if3 .taken) (open-cut (a .v .now) (s .pre .0) (a .k) (a .f) (h .holder .result) (s .pre .1) (s .pre .2) (sym (h .holder .ensures)) (y .before .if1 .left) (y .if2 .left)
+    λ t. rw (c .if3 .taken) (open-cut (s .pre .0) (s .pre .1) (s .pre .2) (sym (h .holder .ensures)) (y .before .if1 .left) (y .if2 .left)
     (rw (c .if3 .taken) at (r .recover .ensures)) t)
 
 sub-claim : tie.Need-sub-claim
@@ -64,10 +62,9 @@ claim-requires-2 c κs =
     let y = r .before .before in
     let h = y .before .before in
     let s = h .before .before .before in
-    let a = s .args in
     let made = rw (n .if3 .left) at (r .recover .ensures) in (
-      claim-known (a .v .now) (s .pre .0) (a .k) (a .f) (h .holder .result) (s .pre .1) (s .pre .2) (sym (h .holder .ensures)) (y .before .if1 .left) (y .if2 .left) made,
-      claim-file (a .v .now) (s .pre .0) (a .k) (a .f) (h .holder .result) (s .pre .1) (s .pre .2) (sym (h .holder .ensures)) (y .before .if1 .left) (y .if2 .left) made,
+      recovered-known (s .pre .0) (s .pre .1) (s .pre .2) (sym (h .holder .ensures)) (y .before .if1 .left) (y .if2 .left) made,
+      recovered-file (s .pre .0) (s .pre .1) (s .pre .2) (sym (h .holder .ensures)) (y .before .if1 .left) (y .if2 .left) made,
     )
 
 add-t17 : tie.Need-add-t17
@@ -84,8 +81,7 @@ returns-4 c =
     let y = r .before .before in
     let h = y .before .before in
     let s = h .before .before .before in
-    let a = s .args in
-    λ t. open-more (a .v .now) (s .pre .0) (a .k) (a .f) (h .holder .result) (s .pre .1) (s .pre .2) (sym (h .holder .ensures)) (y .before .if1 .left) (y .if2 .left)
+    λ t. open-more (s .pre .0) (s .pre .1) (s .pre .2) (sym (h .holder .ensures)) (y .before .if1 .left) (y .if2 .left)
     (rw (n .if3 .left) at (r .recover .ensures)) (cl .claim2 .ensures) t
 
 pub open-stores-spec : {M : Type 1} → statement M

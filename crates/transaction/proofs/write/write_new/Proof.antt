@@ -15,7 +15,7 @@ returns c =
     let w = c .before .before .before in
     let s = w .before .before .before .before in
     let a = s .args in
-    λ t. rw (c .if1 .taken) (write-cut (a .k) (a .f) (a .p) (a .slot) (a .src .now) (s .pre .1) (rw (c .if1 .taken) at (w .store-page .ensures)) t)
+    λ t. rw (c .if1 .taken) (write-cut (s .pre .1) (a .src .now) (rw (c .if1 .taken) at (w .store-page .ensures)) t)
 
 sub-store-entry : tie.Need-sub-store-entry
 sub-store-entry c = search needs
@@ -27,9 +27,9 @@ store-entry-requires c κs =
     let s = w .before .before .before .before in
     let a = s .args in
     let made = rw (n .if1 .left) at (w .store-page .ensures) in (
-      written-known (a .k) (a .f) (a .p) (a .slot) (a .src .now) (s .pre .1) (s .pre .0) (s .pre .2) made,
-      written-client (a .k) (a .f) (a .p) (a .slot) (a .src .now) (s .pre .1) (s .pre .0) (s .pre .2) made,
-      written-room (a .k) (a .f) (a .p) (a .slot) (a .src .now) (s .pre .1) (s .pre .0) (s .pre .2) made,
+      written-known (s .pre .1) (a .src .now) (s .pre .0) (s .pre .2) made,
+      written-client (s .pre .1) (a .src .now) (s .pre .0) (s .pre .2) made,
+      written-room (s .pre .1) (a .src .now) (s .pre .0) (s .pre .2) made,
     )
 
 add-t15 : tie.Need-add-t15
@@ -45,7 +45,7 @@ returns-2 c =
     let w = n .before .before .before in
     let s = w .before .before .before .before in
     let a = s .args in
-    λ t. write-more (a .k) (a .f) (a .p) (a .slot) (a .src .now) (s .pre .1) (s .pre .0) (s .pre .2)
+    λ t. write-more (s .pre .1) (a .src .now) (s .pre .0) (s .pre .2)
     (rw (n .if1 .left) at (w .store-page .ensures)) (e .store-entry .ensures) t
 
 pub write-new-spec : {M : Type 1} → statement M

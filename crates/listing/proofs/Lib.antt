@@ -1,0 +1,4 @@
+pub mod WritesLaws
+pub mod LinesLaws
+pub mod ReadLaws
+pub mod ListingLaws

@@ -1,0 +1,3 @@
+pub mod Writes
+pub mod Lines
+pub mod Listed

@@ -1,0 +1,27 @@
+-- What a listing answers, and the bytes it is given afterwards.
+use mathlib.Core.List.{_++_}
+use lib.Dec.{ltb}
+use lib.ListN.{length, drop}
+use Rattle.sector.specs.Lists.{if_then_else_}
+use Rattle.sector.specs.Contents.{Bytes}
+use Rattle.sector.specs.Sectors.{Volume}
+use Rattle.volume.specs.Volumes.{view}
+use Rattle.volume.specs.Sound.{sound}
+use Rattle.volume.specs.Listing.{listing}
+use Rattle.listing.specs.declared.ListOutcome.{ListOutcome}
+
+-- The outcome, and the bytes.
+pub record Listed : Type 0 where
+  pub outcome : ListOutcome
+  pub out : Bytes
+
+-- The text stands at the front, and what is behind it is as it was.
+abbrev pub withText : Bytes → Bytes → Listed
+withText text out = record { outcome = ListOutcome.Listed (length text); out = text ++ drop (length text) out }
+
+-- The text of a sound volume is written; without room for the longest one, or if the volume isn't sound, nothing is.
+unfoldable pub listed : Volume → Bytes → Listed
+listed v out =
+    if ltb (length out) 664 then record { outcome = ListOutcome.NoRoom; out = out }
+    else if sound v then withText (listing (view v)) out
+    else record { outcome = ListOutcome.NotSound; out = out }
