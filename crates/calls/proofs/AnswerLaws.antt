@@ -11,7 +11,7 @@ use lib.ListN.{length, take}
 use lib.Seq.{take-all, length-take-le}
 use Rattle.interface.specs.declared.Session.{Session}
 use Rattle.interface.specs.declared.Refusal.{Refusal}
-use Rattle.interface.specs.Answers.{newSession, Answer, done, crashed, refused, refusalNumber}
+use Rattle.interface.specs.Answers.{newSession, Answer, done, crashed, refused, ReadAnswer, readRefused, refusalNumber}
 use Rattle.sector.specs.Lists.{first}
 use Rattle.sector.specs.Sectors.{Volume}
 use Rattle.volume.specs.Views.{View}
@@ -19,8 +19,8 @@ use Rattle.volume.specs.Volumes.{view}
 use Rattle.volume.specs.Sound.{sound}
 use Rattle.volume.specs.Stores.{allStores}
 use Rattle.rules.specs.Plans.{Call, plan, sessionAfter}
-use Rattle.rules.specs.Refusals.{tests}
-use Rattle.rules.specs.Calls.{After, callBy, call}
+use Rattle.rules.specs.Refusals.{tests, readTests}
+use Rattle.rules.specs.Calls.{After, callBy, call, readBy, read}
 use Rattle.recovery.specs.Budget.{Ran, Made}
 use Rattle.checks.proofs.VerdictLaws.{numbered}
 use Rattle.calls.specs.Replies.{endedBy}
@@ -51,3 +51,13 @@ module _ (v : Volume) (s : Session) (c : Call) (budget : ℕ) (e : 0 ≡ first (
       let room : length xs ≤ budget = ltb-false budget (length xs) (sym (m .over)) in
       let all : take budget xs ≡ xs = take-all budget xs room in
       rw (← e, le-leb (length xs) budget room, m .count, m .volume, all)
+
+-- A refused read.
+pub read-refused : (v : Volume) (s : Session) (k f p : ℕ) (r : Refusal)
+    → refusalNumber r ≡ first (readTests (sound v) (view v) s k f p) → readRefused (refusalNumber r) ≡ read v s k f p
+unfolding read
+read-refused v s k f p r e = go (refusalNumber r) (numbered r) ∙ ap (λ (n : ℕ). readBy n (view v) k f p) e
+  where
+    go : (n : ℕ) → 1 ≤ n → readRefused n ≡ readBy n (view v) k f p
+    go zero h = absurd (not-suc-le-zero h)
+    go (suc n) h = refl

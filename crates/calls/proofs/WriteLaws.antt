@@ -1,0 +1,105 @@
+-- What the tests of write found, taken apart, and what its stores rely on: the entry that the record has, or the slot chosen
+-- for a new one. The answer is one of three cases; the other two are another constructor's.
+use mathlib.Core.Path.{_≡_, refl, sym, ap, _∙_}
+use mathlib.Core.Bool.{Bool, false, _&&_}
+use mathlib.Core.Option.{Option, none, some}
+use mathlib.Core.Logic.{_≢_}
+use Prim.Native.Nat.{ℕ, zero, suc, _<_, _≤_}
+use native.Mathlib.Omega.{arith}
+use borrow.Author.Tests.{eqb-false}
+use lib.Dec.{eqb}
+use lib.ListN.{length}
+use Rattle.interface.specs.declared.Session.{Session}
+use Rattle.sector.specs.Lists.{first}
+use Rattle.sector.specs.Contents.{Bytes, File, Table, Entry, Record}
+use Rattle.sector.specs.Sectors.{Volume}
+use Rattle.volume.specs.Places.{IsClient, IsFile, fileAt}
+use Rattle.volume.specs.Views.{View}
+use Rattle.volume.specs.Volumes.{view}
+use Rattle.volume.specs.Sound.{sound}
+use Rattle.volume.proofs.LawfulLaws.{entry-facts}
+use Rattle.volume.proofs.ReadLaws.{few-entries}
+use Rattle.rules.specs.Plans.{entryFor, chosen, write}
+use Rattle.rules.specs.Refusals.{noEntry, tests}
+use Rattle.rules.proofs.AllowedLaws.{allowed}
+use Rattle.rules.proofs.ChoiceLaws.{chosen-free}
+use Rattle.transaction.specs.Tested.{NewPage}
+use Rattle.checks.specs.Writes.{WriteAnswer, refusedBy, again, new, answerBy, writeAnswer}
+use Rattle.calls.proofs.FactLaws.{call-known}
+
+-- ------------------------------------------------------------------ the three answers
+-- Which answer it is.
+abbrev kind : WriteAnswer → ℕ
+kind (refusedBy n) = 0
+kind (again n) = 1
+kind (new n) = 2
+
+abbrev number : WriteAnswer → ℕ
+number (refusedBy n) = n
+number (again n) = n
+number (new n) = n
+
+pub refused-by : (m n : ℕ) (o : Option Entry) (r : ℕ) → refusedBy m ≡ answerBy n o r → m ≡ n
+refused-by m zero (some e) r h = omega (arith, ap kind h)
+refused-by m zero none r h = omega (arith, ap kind h)
+refused-by m (suc n) o r h = ap number h
+
+-- The page has an entry, with this slot.
+pub record AgainAt (n : ℕ) (o : Option Entry) (q : ℕ) : Type 0 where
+  pub accepted : 0 ≡ n
+  pub entry : Entry
+  pub found : o ≡ some entry
+  pub slot : entry .slot ≡ q
+
+pub again-at : (q n : ℕ) (o : Option Entry) (r : ℕ) → again q ≡ answerBy n o r → AgainAt n o q
+again-at q zero (some e) r h = record { accepted = refl; entry = e; found = refl; slot = sym (ap number h) }
+again-at q zero none r h = absurd (differ (ap kind h))
+  where
+    differ : _≡_ {A = ℕ} 1 2 → ⊥
+    differ e = omega arith
+again-at q (suc n) o r h = absurd (differ (ap kind h))
+  where
+    differ : _≡_ {A = ℕ} 1 0 → ⊥
+    differ e = omega arith
+
+-- The page has none, and a new one takes this slot.
+pub record NewAt (n : ℕ) (o : Option Entry) (r q : ℕ) : Type 0 where
+  pub accepted : 0 ≡ n
+  pub absent : o ≡ none
+  pub slot : q ≡ r
+
+pub new-at : (q n : ℕ) (o : Option Entry) (r : ℕ) → new q ≡ answerBy n o r → NewAt n o r q
+new-at q zero none r h = record { accepted = refl; absent = refl; slot = ap number h }
+new-at q zero (some e) r h = absurd (differ (ap kind h))
+  where
+    differ : _≡_ {A = ℕ} 2 1 → ⊥
+    differ e = omega arith
+new-at q (suc n) o r h = absurd (differ (ap kind h))
+  where
+    differ : _≡_ {A = ℕ} 2 0 → ⊥
+    differ e = omega arith
+
+-- ------------------------------------------------------------------ what the stores rely on
+module _ (v : Volume) (s : Session) (k f p : ℕ) (d : Bytes) (e : 0 ≡ first (tests (sound v) (view v) s (write k f p d))) where
+  pub writes-file : IsFile (view v .table) f × (length d ≡ 256)
+  writes-file = let w = allowed v s (write k f p d) (sym e) in (w .place .file, w .size)
+
+  pub again-below : (x : Entry) → entryFor (view v) k f p ≡ some x → x .slot < fileAt (view v .table) f .slots
+  again-below x found =
+      let w = allowed v s (write k f p d) (sym e) .place in
+      entry-facts (w .act .ready .laws .records k (w .act .active .low) (w .act .running .client)) f p x found .slot
+
+  pub new-page : (q : ℕ) → entryFor (view v) k f p ≡ none → q ≡ chosen (view v) k f p → NewPage (view v) k f p q
+  new-page q absent slot =
+      let w = allowed v s (write k f p d) (sym e) in
+      let client : IsClient (view v .table) k = record { low = w .place .act .active .low; high = w .place .act .running .client } in
+      let free = chosen-free (view v) k f p (rw absent at (w .room)) in
+      let full : length (view v .records k .entries) ≢ 62 = eqb-false _ _ (rw absent at (w .few)) in
+      record {
+        client = client;
+        file = w .place .file;
+        absent = absent;
+        lowest = slot;
+        below = rw slot (free .below);
+        room = omega (arith, few-entries v (call-known v s (write k f p d) e) k client);
+      }
