@@ -1,3 +1,4 @@
 pub mod AnswerLaws
 pub mod FactLaws
 pub mod WriteLaws
+pub mod PageLaws
