@@ -19,6 +19,7 @@ use Rattle.rules.specs.Sessions.{isActive}
 use Rattle.rules.specs.Plans.{Call, begin, openFile, commit, abort}
 use Rattle.rules.specs.Refusals.{tests}
 use Rattle.rules.proofs.AllowedLaws.{allowed, allowed-sound}
+use Rattle.transaction.proofs.TestedLaws.{begin-client, act-client, open-header}
 
 -- The volume is known, whatever the call.
 pub call-known : (v : Volume) (s : Session) (c : Call) → 0 ≡ first (tests (sound v) (view v) s c) → Known v
@@ -39,7 +40,7 @@ pub begins : (v : Volume) (s : Session) (k : ℕ) → 0 ≡ first (tests (sound 
 begins v s k e =
     let w = allowed v s (begin k) (sym e) in
     record {
-      client = record { low = w .low; high = w .high };
+      client = begin-client w;
       few = omega (arith, w .high, few-clients v (call-known v s (begin k) e));
       off = w .off;
     }
@@ -54,7 +55,7 @@ pub acts : (v : Volume) (s : Session) (k : ℕ) → 0 ≡ first (tests (sound v)
 acts v s k e =
     let w = allowed v s (commit k) (sym e) in
     record {
-      client = record { low = w .active .low; high = w .running .client };
+      client = act-client w;
       few = w .active .high;
       running = w .running .state;
     }
@@ -64,4 +65,4 @@ pub opens : (v : Volume) (s : Session) (k f : ℕ) → 0 ≡ first (tests (sound
     → IsFile (view v .table) f × HeaderFacts (view v .table) (view v .records) f (view v .headers f)
 opens v s k f e =
     let w = allowed v s (openFile k f) (sym e) in
-    (w .file, w .act .ready .laws .headers f (w .file))
+    (w .file, open-header w)

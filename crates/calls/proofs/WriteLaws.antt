@@ -1,31 +1,24 @@
 -- What the tests of write found, taken apart, and what its stores rely on: the entry that the record has, or the slot chosen
 -- for a new one. The answer is one of three cases; the other two are another constructor's.
-use mathlib.Core.Path.{_≡_, refl, sym, ap, _∙_}
-use mathlib.Core.Bool.{Bool, false, _&&_}
+use mathlib.Core.Path.{_≡_, refl, sym, ap, subst}
 use mathlib.Core.Option.{Option, none, some}
-use mathlib.Core.Logic.{_≢_}
-use Prim.Native.Nat.{ℕ, zero, suc, _<_, _≤_}
+use Prim.Native.Nat.{ℕ, zero, suc, _<_}
 use native.Mathlib.Omega.{arith}
-use borrow.Author.Tests.{eqb-false}
-use lib.Dec.{eqb}
 use lib.ListN.{length}
 use Rattle.interface.specs.declared.Session.{Session}
 use Rattle.sector.specs.Lists.{first}
-use Rattle.sector.specs.Contents.{Bytes, File, Table, Entry, Record}
+use Rattle.sector.specs.Contents.{Bytes, File, Table, Entry}
 use Rattle.sector.specs.Sectors.{Volume}
-use Rattle.volume.specs.Places.{IsClient, IsFile, fileAt}
+use Rattle.volume.specs.Places.{IsFile, fileAt}
 use Rattle.volume.specs.Views.{View}
 use Rattle.volume.specs.Volumes.{view}
 use Rattle.volume.specs.Sound.{sound}
-use Rattle.volume.proofs.LawfulLaws.{entry-facts}
-use Rattle.volume.proofs.ReadLaws.{few-entries}
 use Rattle.rules.specs.Plans.{entryFor, chosen, write}
-use Rattle.rules.specs.Refusals.{noEntry, tests}
+use Rattle.rules.specs.Refusals.{tests}
 use Rattle.rules.proofs.AllowedLaws.{allowed}
-use Rattle.rules.proofs.ChoiceLaws.{chosen-free}
 use Rattle.transaction.specs.Tested.{NewPage}
-use Rattle.checks.specs.Writes.{WriteAnswer, refusedBy, again, new, answerBy, writeAnswer}
-use Rattle.calls.proofs.FactLaws.{call-known}
+use Rattle.transaction.proofs.TestedLaws.{old-slot, new-page}
+use Rattle.checks.specs.Writes.{WriteAnswer, refusedBy, again, new, answerBy}
 
 -- ------------------------------------------------------------------ the three answers
 -- Which answer it is.
@@ -85,21 +78,8 @@ module _ (v : Volume) (s : Session) (k f p : ℕ) (d : Bytes) (e : 0 ≡ first (
   writes-file = let w = allowed v s (write k f p d) (sym e) in (w .place .file, w .size)
 
   pub again-below : (x : Entry) → entryFor (view v) k f p ≡ some x → x .slot < fileAt (view v .table) f .slots
-  again-below x found =
-      let w = allowed v s (write k f p d) (sym e) .place in
-      entry-facts (w .act .ready .laws .records k (w .act .active .low) (w .act .running .client)) f p x found .slot
+  again-below x found = old-slot (allowed v s (write k f p d) (sym e)) x found
 
-  pub new-page : (q : ℕ) → entryFor (view v) k f p ≡ none → q ≡ chosen (view v) k f p → NewPage (view v) k f p q
-  new-page q absent slot =
-      let w = allowed v s (write k f p d) (sym e) in
-      let client : IsClient (view v .table) k = record { low = w .place .act .active .low; high = w .place .act .running .client } in
-      let free = chosen-free (view v) k f p (rw absent at (w .room)) in
-      let full : length (view v .records k .entries) ≢ 62 = eqb-false _ _ (rw absent at (w .few)) in
-      record {
-        client = client;
-        file = w .place .file;
-        absent = absent;
-        lowest = slot;
-        below = rw slot (free .below);
-        room = omega (arith, few-entries v (call-known v s (write k f p d) e) k client);
-      }
+  pub new-below : (q : ℕ) → entryFor (view v) k f p ≡ none → q ≡ chosen (view v) k f p → NewPage (view v) k f p q
+  new-below q absent slot =
+      subst (λ (r : ℕ). NewPage (view v) k f p r) (sym slot) (new-page (allowed v s (write k f p d) (sym e)) absent)

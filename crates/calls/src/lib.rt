@@ -53,8 +53,8 @@ pub fn commit(v: &mut [u8], s: Session, k: u8, budget: u8) -> Reply
     match checks::check_active(v, s, k) {
         Verdict::Refused(r) => refuse(s, r),
         Verdict::Accepted => {
-            let run = transaction::commit_stores(v, k, budget);
-            end(run, checks::set_active(s, k, false))
+            let made = transaction::commit_stores(v, k, budget);
+            end(made, checks::set_active(s, k, false))
         }
     }
 }

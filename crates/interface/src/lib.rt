@@ -1,7 +1,8 @@
 // What a caller of the volume meets: sessions, outcomes and refusals, all of them plain values.
 // `specs/Answers.antt` lists the number and values that document 01 has for each case.
 ghost use mathlib.Core.Path.{_≡_};
-ghost use Rattle.interface.specs.Answers.{newSession};
+ghost use Prim.Native.Nat.{_≤_};
+ghost use Rattle.interface.specs.Answers.{newSession, refusalNumber};
 
 // Which clients have a transaction running: client k's mark is `active[k - 1]`. A call takes a
 // session and hands one back; after a crash of the supply the next call is given a new one.
@@ -83,4 +84,27 @@ pub enum FormatOutcome {
     Done,
     // The array is as it was.
     Refused(Refusal),
+}
+
+// The number of a refusal in the table.
+pub fn number(r: Refusal) -> u8
+    ensures { λ n. ⌜ (n ≡ refusalNumber r) × (n ≤ 15) ⌝ }
+{
+    match r {
+        Refusal::NotSound => 1,
+        Refusal::BadSession => 2,
+        Refusal::NoClient => 3,
+        Refusal::AlreadyActive => 4,
+        Refusal::NotActive => 5,
+        Refusal::NoFile => 6,
+        Refusal::FileInUse => 7,
+        Refusal::NotHeld => 8,
+        Refusal::NoPage => 9,
+        Refusal::BadPageLength => 10,
+        Refusal::NoFreeSlot => 11,
+        Refusal::RecordFull => 12,
+        Refusal::BadVolumeLength => 13,
+        Refusal::BadShape => 14,
+        Refusal::TooFewSectors => 15,
+    }
 }

@@ -96,8 +96,8 @@ fn release(v: &mut [u8], k: u8, redo: bool, budget: u8) -> Run
     }
 }
 
-// Client k is recovered: nothing to do if its record is idle, undone if it is open, redone if it is decided. A sound volume
-// has no other state.
+// Client k is recovered by its record's state: nothing to do if it is idle, undone if it is open, redone if it is decided.
+// On another byte, which no sound volume has there, nothing is stored.
 pub fn recover(v: &mut [u8], k: u8, budget: u8) -> Run
     requires { ⌜ Known (now v) × IsClient (view (now v) .table) k ⌝ }
     ensures { λ r. ⌜ Made budget (now (v .entry)) (recoveryNow (view (now (v .entry))) k) (now (v .exit)) (r .made) (r .crashed) ⌝ }

@@ -2,3 +2,4 @@ pub mod BeginLaws
 pub mod OpenLaws
 pub mod WriteLaws
 pub mod CommitLaws
+pub mod TestedLaws

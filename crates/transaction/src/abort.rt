@@ -1,4 +1,4 @@
-// Abort.
+// The stores of abort.
 ghost use mathlib.Core.Path.{_≡_};
 ghost use Rattle.interface.specs.declared.Session.{Session};
 ghost use Rattle.volume.specs.Places.{IsClient};

@@ -1,4 +1,4 @@
-// Begin.
+// The stores of begin.
 ghost use mathlib.Core.Path.{_≡_};
 ghost use mathlib.Core.Bool.{false};
 ghost use Rattle.interface.specs.declared.Session.{Session};

@@ -1,5 +1,4 @@
-// Commit.
-ghost use mathlib.Core.Path.{_≡_};
+// The stores of commit.
 ghost use mathlib.Core.List.{[], _∷_};
 ghost use Rattle.interface.specs.declared.Session.{Session};
 ghost use Rattle.sector.specs.Contents.{decidedRecord};

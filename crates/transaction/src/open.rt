@@ -1,5 +1,4 @@
-// Open.
-ghost use mathlib.Core.Path.{_≡_};
+// The stores of open.
 ghost use mathlib.Core.List.{[], _∷_};
 ghost use Rattle.interface.specs.declared.Session.{Session};
 ghost use Rattle.volume.specs.Places.{IsFile};

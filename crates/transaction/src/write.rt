@@ -1,7 +1,7 @@
-// Write.
+// The stores of write.
 ghost use mathlib.Core.Path.{_≡_};
 ghost use mathlib.Core.List.{[], _∷_};
-ghost use mathlib.Core.Option.{none, some};
+ghost use mathlib.Core.Option.{some};
 ghost use Prim.Native.Nat.{ℕ, _<_};
 ghost use lib.ListN.{length};
 ghost use Rattle.interface.specs.declared.Session.{Session};
@@ -10,7 +10,7 @@ ghost use Rattle.volume.specs.Places.{IsClient, IsFile, fileAt};
 ghost use Rattle.volume.specs.Views.{setRecord, setSlot};
 ghost use Rattle.volume.specs.Volumes.{view};
 ghost use Rattle.volume.specs.Known.{Known};
-ghost use Rattle.rules.specs.Plans.{write, entryFor, chosen, plan};
+ghost use Rattle.rules.specs.Plans.{write, entryFor, plan};
 ghost use Rattle.recovery.specs.Budget.{Made};
 ghost use Rattle.transaction.specs.Tested.{NewPage};
 use recovery::Run;

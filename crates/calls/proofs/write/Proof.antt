@@ -5,7 +5,7 @@ use Rattle.rules.specs.Plans.{write}
 use Rattle.checks.specs.Writes.{writeFound}
 use Rattle.calls.proofs.AnswerLaws.{refused-call, ended-call}
 use Rattle.calls.proofs.FactLaws.{call-known}
-use Rattle.calls.proofs.WriteLaws.{refused-by, again-at, new-at, writes-file, again-below, new-page}
+use Rattle.calls.proofs.WriteLaws.{refused-by, again-at, new-at, writes-file, again-below, new-below}
 use Rattle.calls.proofs.write.Statement.{statement}
 use Rattle.calls.proofs.write.Tie as tie
 
@@ -44,7 +44,7 @@ write-new-requires c κs =
     let s = q .before .before .before .before in
     let w = new-at _ _ _ _ (ap writeFound (sym (x .slot2 .given .1)) ∙ q .check-write .ensures) in
     let e = w .accepted in
-    (call-known (s .args .v .now) (s .args .s) (write (s .args .k) (s .args .f) (s .args .p) (s .args .bytes .now)) e, new-page (s .args .v .now) (s .args .s) (s .args .k) (s .args .f) (s .args .p) (s .args .bytes .now) e _ (w .absent) (w .slot), writes-file (s .args .v .now) (s .args .s) (s .args .k) (s .args .f) (s .args .p) (s .args .bytes .now) e .1)
+    (call-known (s .args .v .now) (s .args .s) (write (s .args .k) (s .args .f) (s .args .p) (s .args .bytes .now)) e, new-below (s .args .v .now) (s .args .s) (s .args .k) (s .args .f) (s .args .p) (s .args .bytes .now) e _ (w .absent) (w .slot), writes-file (s .args .v .now) (s .args .s) (s .args .k) (s .args .f) (s .args .p) (s .args .bytes .now) e .1)
 
 end-requires-2 : tie.Need-end-requires-2
 end-requires-2 c κs = search needs

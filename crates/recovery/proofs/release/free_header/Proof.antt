@@ -37,7 +37,8 @@ returns c =
     let s = l .before .before .before .before in
     let a = s .args in
     let d = record-read (a .v .now) (s .pre .1) (a .k) (s .pre .2) _ (r .record .ensures .0) in
-    let e = h .set-holder .ensures .0 _ _ (header-read (a .v .now) (s .pre .1) (a .f) (s .pre .3) _ (l .load .ensures .0 ∙ l .before .header .ensures .0)) in
+    let read = header-read (a .v .now) (s .pre .1) (a .f) (s .pre .3) _ (l .load .ensures .0 ∙ l .before .header .ensures .0) in
+    let e = h .set-holder .ensures .0 _ _ read in
     let inside = pages-inside (a .v .now) (s .pre .1) (a .k) (s .pre .2) (a .f) (s .pre .3) in
     (rw (r .before .before .if1 .taken) (rw d at (c .redo-map .ensures .0 _ _ e (rw d inside))), c .redo-map .ensures .1)
 
@@ -47,7 +48,8 @@ returns-2 c =
     let l = h .before .before in
     let s = l .before .before .before .before in
     let a = s .args in
-    let e = h .set-holder .ensures .0 _ _ (header-read (a .v .now) (s .pre .1) (a .f) (s .pre .3) _ (l .load .ensures .0 ∙ l .before .header .ensures .0)) in
+    let read = header-read (a .v .now) (s .pre .1) (a .f) (s .pre .3) _ (l .load .ensures .0 ∙ l .before .header .ensures .0) in
+    let e = h .set-holder .ensures .0 _ _ read in
     (rw (c .if1 .left) e, h .set-holder .ensures .1)
 
 pub free-header-spec : {M : Type 1} → statement M

@@ -31,7 +31,8 @@ returns-2 c =
     let y = cl .before .before in
     let h = y .before .before in
     let a = h .before .before .before .args in
-    λ t. rw (free-plan (view (a .v .now)) t (a .k) (a .f) (λ e. y .before .if1 .left (h .holder .ensures ∙ e)) (sym (h .holder .ensures) ∙ y .if2 .taken)) (cl .claim .ensures)
+    let holder = sym (h .holder .ensures) in
+    λ t. rw (free-plan (view (a .v .now)) t (a .k) (a .f) (rw holder (y .before .if1 .left)) (holder ∙ y .if2 .taken)) (cl .claim .ensures)
 
 recover-requires : tie.Need-recover-requires
 recover-requires c κs =

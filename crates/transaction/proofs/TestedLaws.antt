@@ -1,0 +1,46 @@
+-- What the stores of a call require, from the tests of the call: none of them held.
+use mathlib.Core.Path.{_≡_, refl}
+use mathlib.Core.Logic.{_≢_}
+use mathlib.Core.Option.{none, some}
+use Prim.Native.Nat.{ℕ, _<_}
+use native.Mathlib.Omega.{arith}
+use borrow.Author.Tests.{eqb-false}
+use lib.ListN.{length}
+use Rattle.interface.specs.declared.Session.{Session}
+use Rattle.sector.specs.Contents.{Bytes, Entry}
+use Rattle.volume.specs.Places.{IsClient, fileAt}
+use Rattle.volume.specs.Views.{View}
+use Rattle.volume.proofs.LawfulLaws.{HeaderFacts, RecordFacts, entry-facts}
+use Rattle.rules.specs.Plans.{entryFor, chosen}
+use Rattle.rules.proofs.AllowedLaws.{MayBegin, MayAct, MayOpen, MayWrite}
+use Rattle.rules.proofs.ChoiceLaws.{chosen-free}
+use Rattle.transaction.specs.Tested.{NewPage}
+
+module _ {a : View} {s : Session} {k : ℕ} where
+  pub begin-client : MayBegin a s k → IsClient (a .table) k
+  begin-client w = record { low = w .low; high = w .high }
+
+  pub act-client : MayAct a s k → IsClient (a .table) k
+  act-client w = record { low = w .active .low; high = w .running .client }
+
+  pub open-header : {f : ℕ} → MayOpen a s k f → HeaderFacts (a .table) (a .records) f (a .headers f)
+  open-header {f} w = w .act .ready .laws .headers f (w .file)
+
+  module _ {f p : ℕ} {d : Bytes} (w : MayWrite a s k f p d) where
+    own : RecordFacts (a .table) (a .records k)
+    own = w .place .act .ready .laws .records k (w .place .act .active .low) (w .place .act .running .client)
+
+    pub old-slot : (e : Entry) → entryFor a k f p ≡ some e → e .slot < fileAt (a .table) f .slots
+    old-slot e found = entry-facts own f p e found .slot
+
+    pub new-page : entryFor a k f p ≡ none → NewPage a k f p (chosen a k f p)
+    new-page absent =
+        let spare : length (a .records k .entries) ≢ 62 = eqb-false _ _ (rw absent at (w .few)) in
+        record {
+          client = act-client (w .place .act);
+          file = w .place .file;
+          absent = absent;
+          lowest = refl;
+          below = chosen-free a k f p (rw absent at (w .room)) .below;
+          room = omega (arith, own .few);
+        }
