@@ -57,17 +57,8 @@ fn write(v: &mut [u8], s: Session, f: u8, p: u8, byte: u8) -> Session {
     put(b"write 1");
     put_number(f);
     put_number(p);
-    let mut bytes = [0u8; 256];
-    fill(&mut bytes, byte);
+    let bytes = [byte; 256];
     told(calls::write(v, s, 1, f, p, &bytes, 255))
-}
-
-fn fill(bytes: &mut [u8], byte: u8) {
-    let mut i = 0;
-    while i < bytes.len() {
-        bytes[i] = byte;
-        i += 1;
-    }
 }
 
 fn commit(v: &mut [u8], s: Session, budget: u8) -> Session {
@@ -93,102 +84,128 @@ fn read(v: &[u8], s: Session, k: u8, f: u8, p: u8) {
     put(b"\n");
 }
 
-// The first sixteen bytes of a sector.
-fn dump(v: &[u8], sector: usize) {
-    put(b"sector ");
+// The first sixteen bytes of a sector, in hexadecimal.
+fn hex(v: &[u8], sector: u8) {
+    let start = 256 * sector::size(sector);
     let mut i = 0;
     while i < 16 {
-        let at = 256 * sector + i;
+        let at = start + i;
         if at < v.len() {
             io::print_hex(1, wide(v[at]), 2);
         }
         i += 1;
     }
+}
+
+fn dump(v: &[u8], sector: u8) {
+    put(b"sector");
+    put_number(sector);
+    put(b" ");
+    hex(v, sector);
     put(b"\n");
 }
 
-// E1 and E2: V is formatted, and client 1 writes both files.
-fn e2(v: &mut [u8], name: &[u8]) -> Session {
+// E1: V is formatted.
+fn e1(v: &mut [u8], name: &[u8]) {
     put(name);
-    put(b"\n");
+    put(b"\nformat");
     let shape = [2u8, 3, 1, 3];
     match format::format(v, 2, &shape) {
-        FormatOutcome::Done => put(b"format done\n"),
+        FormatOutcome::Done => put(b" done\n"),
         FormatOutcome::Refused(why) => put_number(interface::number(why)),
     }
+}
+
+// Client 1 begins and opens both files.
+fn hold(v: &mut [u8]) -> Session {
     let s = begin(v, Session::new(), 1);
     let s = open(v, s, 1, 1, 255);
-    let s = open(v, s, 1, 2, 255);
+    open(v, s, 1, 2, 255)
+}
+
+// E2, from the start: client 1 writes both files.
+fn e2(v: &mut [u8], name: &[u8]) -> Session {
+    e1(v, name);
+    let s = hold(v);
     let s = write(v, s, 1, 0, 0xA1);
     write(v, s, 2, 0, 0xB2)
 }
 
-// E2: the record, the slots and the headers.
-fn e2_bytes(v: &[u8], s: Session) {
-    dump(v, 0);
-    dump(v, 1);
-    dump(v, 3);
-    dump(v, 6);
-    dump(v, 7);
-    dump(v, 9);
-    read(v, s, 1, 1, 0);
-    read(v, s, 1, 2, 0);
-}
-
-fn e3_and_e4(v: &mut [u8]) {
-    let s = e2(v, b"E3");
-    let s = write(v, s, 1, 0, 0xA2);
-    dump(v, 1);
-    dump(v, 6);
-    put(b"E4\n");
-    let s = write(v, s, 1, 1, 0xA2);
-    read(v, s, 1, 1, 1);
-}
-
-// Begin and open by client 2 after the commit of client 1, and what it reads.
-fn after(v: &mut [u8], s: Session, f: u8) -> Session {
-    let s = begin(v, s, 2);
-    let s = open(v, s, 2, f, 255);
-    read(v, s, 2, f, 0);
-    s
-}
-
+// The record of client 1 and both headers.
 fn headers(v: &[u8]) {
     dump(v, 1);
     dump(v, 3);
     dump(v, 7);
 }
 
-fn e5_to_e7(v: &mut [u8]) {
+// What E2 says of the bytes.
+fn e2_bytes(v: &[u8], s: Session) {
+    dump(v, 0);
+    headers(v);
+    dump(v, 6);
+    dump(v, 9);
+    read(v, s, 1, 1, 0);
+    read(v, s, 1, 2, 0);
+}
+
+fn e3(v: &mut [u8]) -> Session {
+    let s = e2(v, b"E3");
+    let s = write(v, s, 1, 0, 0xA2);
+    dump(v, 1);
+    dump(v, 6);
+    s
+}
+
+fn e4(v: &mut [u8], s: Session) {
+    put(b"E4\n");
+    let s = write(v, s, 1, 1, 0xA2);
+    read(v, s, 1, 1, 1);
+}
+
+fn e5(v: &mut [u8]) {
     let s = e2(v, b"E5");
     commit(v, s, 4);
     headers(v);
-    let s = e2(v, b"E6");
-    let s = commit(v, s, 0);
-    after(v, s, 1);
-    headers(v);
-    let s = e2(v, b"E7");
-    let s = commit(v, s, 1);
-    after(v, s, 2);
+}
+
+// Begin and open by client 2, and what it reads.
+fn second(v: &mut [u8], s: Session, f: u8) -> Session {
+    let s = begin(v, s, 2);
+    let s = open(v, s, 2, f, 255);
+    read(v, s, 2, f, 0);
+    s
+}
+
+// E6 and E7: commit crashes after so many stores, and client 2 opens file f.
+fn e6(v: &mut [u8], name: &[u8], budget: u8, f: u8) {
+    let s = e2(v, name);
+    let s = commit(v, s, budget);
+    second(v, s, f);
     headers(v);
 }
 
-fn e8_to_e10(v: &mut [u8]) {
+fn e8(v: &mut [u8]) {
     let s = e2(v, b"E8");
     let s = commit(v, s, 2);
-    let s = after(v, s, 1);
+    let s = second(v, s, 1);
     let s = open(v, s, 2, 2, 255);
     read(v, s, 2, 2, 0);
     headers(v);
+}
+
+fn e9(v: &mut [u8]) {
     let s = e2(v, b"E9");
     let s = commit(v, s, 3);
     begin(v, s, 1);
     headers(v);
+}
+
+fn e10(v: &mut [u8]) {
     let s = e2(v, b"E10");
     let s = commit(v, s, 1);
     let s = begin(v, s, 2);
     let s = open(v, s, 2, 2, 1);
-    after(v, s, 2);
+    second(v, s, 2);
     headers(v);
 }
 
@@ -197,7 +214,12 @@ fn main() {
     let v: &mut [u8] = &mut array;
     let s = e2(v, b"E2");
     e2_bytes(v, s);
-    e3_and_e4(v);
-    e5_to_e7(v);
-    e8_to_e10(v);
+    let s = e3(v);
+    e4(v, s);
+    e5(v);
+    e6(v, b"E6", 0, 1);
+    e6(v, b"E7", 1, 2);
+    e8(v);
+    e9(v);
+    e10(v);
 }
