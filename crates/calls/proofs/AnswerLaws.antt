@@ -6,22 +6,20 @@ use Prim.Native.Nat.{ℕ, zero, suc, _≤_, _<_}
 use native.Mathlib.Nat.{not-suc-le-zero}
 use native.Mathlib.Omega.{arith}
 use borrow.Author.Tests.{ltb-true, ltb-false, le-leb, lt-leb}
-use lib.Dec.{ltb}
 use lib.ListN.{length, take}
 use lib.Seq.{take-all, length-take-le}
 use Rattle.interface.specs.declared.Session.{Session}
 use Rattle.interface.specs.declared.Refusal.{Refusal}
-use Rattle.interface.specs.Answers.{newSession, Answer, done, crashed, refused, ReadAnswer, readRefused, refusalNumber}
+use Rattle.interface.specs.Answers.{refused, readRefused, refusalNumber}
 use Rattle.sector.specs.Lists.{first}
 use Rattle.sector.specs.Sectors.{Volume}
-use Rattle.volume.specs.Views.{View}
 use Rattle.volume.specs.Volumes.{view}
 use Rattle.volume.specs.Sound.{sound}
 use Rattle.volume.specs.Stores.{allStores}
 use Rattle.rules.specs.Plans.{Call, plan, sessionAfter}
 use Rattle.rules.specs.Refusals.{tests, readTests}
-use Rattle.rules.specs.Calls.{After, callBy, call, readBy, read}
-use Rattle.recovery.specs.Budget.{Ran, Made}
+use Rattle.rules.specs.Calls.{callBy, call, readBy, read}
+use Rattle.recovery.specs.Budget.{Made}
 use Rattle.checks.proofs.VerdictLaws.{numbered}
 use Rattle.calls.specs.Replies.{endedBy}
 

@@ -1,14 +1,12 @@
 -- What the stores of a call rely on, from its tests, none of which held.
-use mathlib.Core.Path.{_≡_, refl, sym, _∙_}
-use mathlib.Core.Bool.{true, false}
+use mathlib.Core.Path.{_≡_, refl, sym}
+use mathlib.Core.Bool.{false}
 use Prim.Native.Nat.{ℕ, _≤_}
 use native.Mathlib.Omega.{arith}
 use Rattle.interface.specs.declared.Session.{Session}
 use Rattle.sector.specs.Lists.{first}
-use Rattle.sector.specs.Contents.{Table, Record}
 use Rattle.sector.specs.Sectors.{Volume}
 use Rattle.volume.specs.Places.{IsClient, IsFile}
-use Rattle.volume.specs.Views.{View}
 use Rattle.volume.specs.Volumes.{view}
 use Rattle.volume.specs.Sound.{sound}
 use Rattle.volume.specs.Known.{Known}

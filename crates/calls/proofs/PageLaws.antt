@@ -1,27 +1,23 @@
 -- The sector that a read answers lies inside the volume: its slot is one of the file's, given by an entry that fits or by the
 -- map.
-use mathlib.Core.Path.{_≡_, refl, sym, ap, _∙_}
+use mathlib.Core.Path.{_≡_, refl, sym}
 use mathlib.Core.Option.{Option, none, some}
-use Prim.Native.Nat.{ℕ, zero, suc, _+_, _*_, _<_, _≤_}
+use Prim.Native.Nat.{ℕ, _+_, _*_, _<_, _≤_}
 use native.Mathlib.Omega.{arith}
 use borrow.Author.Tests.{ltb-true}
 use lib.Dec.{ltb}
-use lib.ListN.{length, getD}
+use lib.ListN.{length}
 use Rattle.interface.specs.declared.Session.{Session}
 use Rattle.interface.specs.Answers.{ReadAnswer, found, readRefused}
-use Rattle.sector.specs.Lists.{first}
-use Rattle.sector.specs.Contents.{File, Table, Entry}
+use Rattle.sector.specs.Contents.{Entry}
 use Rattle.sector.specs.Sectors.{Volume}
 use Rattle.sector.proofs.ListLaws.{every-at}
 use Rattle.volume.specs.Places.{fileAt}
 use Rattle.volume.specs.Views.{View}
 use Rattle.volume.specs.Volumes.{view}
-use Rattle.volume.specs.Sound.{sound}
 use Rattle.volume.proofs.LawfulLaws.{entry-facts}
 use Rattle.volume.proofs.ReadLaws.{few-sectors, slot-inside}
-use Rattle.volume.proofs.KnownLaws.{sound-known}
 use Rattle.rules.specs.Plans.{entryFor, slotFor}
-use Rattle.rules.specs.Refusals.{readTests}
 use Rattle.rules.specs.Calls.{read}
 use Rattle.rules.proofs.AllowedLaws.{MayRead, readable}
 use Rattle.rules.proofs.CallLaws.{read-case}

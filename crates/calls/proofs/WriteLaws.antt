@@ -7,10 +7,9 @@ use native.Mathlib.Omega.{arith}
 use lib.ListN.{length}
 use Rattle.interface.specs.declared.Session.{Session}
 use Rattle.sector.specs.Lists.{first}
-use Rattle.sector.specs.Contents.{Bytes, File, Table, Entry}
+use Rattle.sector.specs.Contents.{Bytes, Entry}
 use Rattle.sector.specs.Sectors.{Volume}
 use Rattle.volume.specs.Places.{IsFile, fileAt}
-use Rattle.volume.specs.Views.{View}
 use Rattle.volume.specs.Volumes.{view}
 use Rattle.volume.specs.Sound.{sound}
 use Rattle.rules.specs.Plans.{entryFor, chosen, write}

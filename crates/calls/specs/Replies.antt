@@ -3,8 +3,7 @@ use mathlib.Core.Bool.{Bool}
 use Prim.Native.Nat.{ℕ}
 use Rattle.interface.specs.declared.Session.{Session}
 use Rattle.interface.specs.declared.Reply.{Reply}
-use Rattle.interface.specs.declared.ReadOutcome.{ReadOutcome}
-use Rattle.interface.specs.Answers.{newSession, Answer, done, crashed, answerOf}
+use Rattle.interface.specs.Answers.{newSession, done, crashed, answerOf}
 use Rattle.sector.specs.Lists.{if_then_else_}
 use Rattle.sector.specs.Sectors.{Volume}
 use Rattle.rules.specs.Calls.{After}

@@ -9,7 +9,6 @@ use native.Mathlib.Numerals.{add-one}
 use native.Mathlib.Omega.{arith}
 use lib.ListN.{length, drop, drop-of-length-le}
 use Rattle.sector.specs.Lists.{any, filter, find, member, from}
-use Rattle.sector.specs.Contents.{File, Table, Record, Header}
 use Rattle.sector.specs.Entries.{givesSlot}
 use Rattle.volume.specs.Places.{fileAt}
 use Rattle.volume.specs.Views.{View}

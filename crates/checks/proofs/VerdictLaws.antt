@@ -13,13 +13,11 @@ use Rattle.interface.specs.declared.Refusal.{Refusal}
 use Rattle.interface.specs.declared.Refusal.the-variants.{NotSound, BadSession, NoClient, AlreadyActive, NotActive, NoFile, FileInUse, NotHeld, NoPage, BadPageLength, NoFreeSlot, RecordFull, BadVolumeLength, BadShape, TooFewSectors}
 use Rattle.interface.specs.Answers.{refusalNumber}
 use Rattle.sector.specs.Lists.{first, every}
-use Rattle.sector.specs.Contents.{Table, Header}
 use Rattle.sector.specs.Sectors.{Volume}
 use Rattle.sector.proofs.ListLaws.{and-left, and-right}
 use Rattle.sector.proofs.CaseLaws.{by-equal}
 use Rattle.sector.proofs.SearchLaws.{first-none}
 use Rattle.volume.specs.Places.{IsFile}
-use Rattle.volume.specs.Views.{View}
 use Rattle.volume.specs.Volumes.{view}
 use Rattle.volume.specs.Sound.{sound}
 use Rattle.volume.proofs.PlaceLaws.{client-of}

@@ -12,7 +12,7 @@ use lib.Dec.{eqb}
 use lib.ListN.{length, getD}
 use Rattle.interface.specs.declared.Session.{Session}
 use Rattle.sector.specs.Lists.{first, isSome}
-use Rattle.sector.specs.Contents.{Bytes, Entry, Record, Header}
+use Rattle.sector.specs.Contents.{Bytes, Entry}
 use Rattle.sector.specs.Sectors.{Volume}
 use Rattle.sector.proofs.SearchLaws.{first-none, none-some}
 use Rattle.volume.specs.Places.{IsClient, IsPage}

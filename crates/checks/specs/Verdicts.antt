@@ -4,7 +4,6 @@ use mathlib.Core.List.{List, [], _∷_}
 use Prim.Native.Nat.{ℕ}
 use Rattle.interface.specs.declared.Session.{Session}
 use Rattle.interface.specs.Answers.{refusalNumber}
-use Rattle.sector.specs.Contents.{Table}
 use Rattle.volume.specs.Places.{isClient, isFile}
 use Rattle.volume.specs.Views.{View}
 use Rattle.rules.specs.Sessions.{isActive, holds, sessionFits}

@@ -6,7 +6,7 @@ use Prim.Native.Nat.{ℕ, zero, suc}
 use lib.Dec.{eqb}
 use lib.ListN.{length}
 use Rattle.interface.specs.Answers.{refusalNumber}
-use Rattle.sector.specs.Contents.{Bytes, Entry, Record}
+use Rattle.sector.specs.Contents.{Bytes, Entry}
 use Rattle.volume.specs.Views.{View}
 use Rattle.rules.specs.Plans.{entryFor, freeSlots, chosen}
 use Rattle.rules.specs.Refusals.{noEntry}

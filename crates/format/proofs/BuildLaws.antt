@@ -1,8 +1,8 @@
 -- The table and a header, built in a sector of zeros: the fixed bytes at the front by computation, then what is put behind
 -- them, an entry for each file or a slot for each page. A loop keeps that what is still to be put makes up the whole.
-use mathlib.Core.Path.{_≡_, refl, ap}
+use mathlib.Core.Path.{_≡_, refl}
 use mathlib.Core.List.{[], _∷_, _++_}
-use Prim.Native.Nat.{ℕ, zero, suc, _+_, _*_, _-_, _/_, _%_, _≤_, _<_}
+use Prim.Native.Nat.{ℕ, suc, _+_, _*_, _-_, _/_, _%_, _≤_, _<_}
 use native.Mathlib.Numerals.{add-one}
 use native.Mathlib.Omega.{arith}
 use lib.ListN.{length, drop, set}
@@ -10,6 +10,7 @@ use Rattle.sector.specs.Lists.{from}
 use Rattle.sector.specs.Contents.{Bytes, File}
 use Rattle.sector.specs.Sectors.{wordBytes, zeroSector, padded}
 use Rattle.sector.specs.Encoding.{fileBytes, encodeTable, encodeHeader}
+use Rattle.sector.proofs.SearchLaws.{from-length}
 use Rattle.sector.proofs.CodecLaws.{files-length}
 use Rattle.volume.specs.Format.{filesOf}
 use Rattle.format.specs.Requests.{pairAt}
@@ -46,10 +47,6 @@ table-built N T F l w e few x =
     rw (← e) (x head n refl (rw all))
 
 -- ------------------------------------------------------------------ a header
-pub from-length : (n a : ℕ) → length (from a n) ≡ n
-from-length zero a = refl
-from-length (suc n) a = ap suc (from-length n (suc a))
-
 pub map-turn : (n p : ℕ) (b : Bytes) → p < n
     → (w : Bytes) → Puts (8 + (p + 1)) (from (p + 1) (n - (p + 1))) (set b (8 + p) p) w → Puts (8 + p) (from p (n - p)) b w
 map-turn n p b lt w rest =

@@ -3,17 +3,17 @@
 -- that of the new volume, so that the zeros left at the end are its last sectors.
 use mathlib.Core.Path.{_≡_, refl, _∙_}
 use mathlib.Core.Bool.{true}
-use mathlib.Core.List.{List, [], _∷_, _++_, append-assoc}
-use Prim.Native.Nat.{ℕ, zero, suc, _+_, _*_, _-_, _/_, _≤_, _<_}
+use mathlib.Core.List.{[], _++_, append-assoc}
+use Prim.Native.Nat.{ℕ, suc, _+_, _*_, _-_, _/_, _≤_, _<_}
 use native.Mathlib.Omega.{arith}
 use borrow.Author.Tests.{leb-true}
 use lib.ListN.{length, drop, replicate, length-append, length-replicate}
-use Rattle.sector.specs.Lists.{every, from}
-use Rattle.sector.specs.Contents.{Bytes, File, Table, Header, idleRecord}
+use Rattle.sector.specs.Lists.{every}
+use Rattle.sector.specs.Contents.{Bytes, File, Table, idleRecord}
 use Rattle.sector.specs.Sectors.{storeAt}
 use Rattle.sector.specs.Encoding.{encodeTable, encodeRecord, encodeHeader}
-use Rattle.sector.proofs.ListLaws.{all-at, and-left, and-right}
-use Rattle.sector.proofs.CodecLaws.{table-length, record-length, header-length}
+use Rattle.sector.proofs.ListLaws.{all-at}
+use Rattle.sector.proofs.CodecLaws.{table-length, record-length}
 use Rattle.volume.specs.Places.{sectorAfter, endSector}
 use Rattle.volume.specs.Lawful.{fileFits}
 use Rattle.volume.specs.Format.{filesOf, repeated, newFiles, newVolume}
@@ -22,16 +22,11 @@ use Rattle.format.specs.Requests.{pairAt}
 use Rattle.format.specs.Puts.{Puts}
 use Rattle.format.proofs.PutsLaws.{puts-zeros, puts-more, puts-store}
 use Rattle.format.proofs.RequestLaws.{files-from, first-fits}
-use Rattle.format.proofs.BuildLaws.{from-length}
+use Rattle.volume.proofs.FormatLaws.{newHeader, repeated-length, new-header-length, new-files-length}
 
 -- ------------------------------------------------------------------ the records
 idle-length : length (encodeRecord idleRecord) ≡ 256
 idle-length = record-length idleRecord (omega arith)
-
-repeated-length : (n : ℕ) (d : Bytes) → length d ≡ 256 → length (repeated n d) ≡ 256 * n
-unfolding repeated
-repeated-length zero d e = refl
-repeated-length (suc n) d e = omega (arith, length-append d (repeated n d), repeated-length n d e)
 
 -- Record k, then those above it up to n.
 pub records-turn : (n k : ℕ) (b : Bytes) → 1 ≤ k → k ≤ n
@@ -43,14 +38,6 @@ records-turn n k b lo hi w rest =
     rw m (puts-more (256 * k) (256 * (k + 1)) _ _ b _ w (omega (arith, idle-length)) (puts-store k _ b idle-length) rest)
 
 -- ------------------------------------------------------------------ the files
-abbrev newHeader : File → Header
-newHeader x = record { holder = 0; map = from 0 (x .pages) }
-
-new-header-length : (x : File) → fileFits x ≡ true → length (encodeHeader x (newHeader x)) ≡ 256
-new-header-length x e =
-    let h : x .pages ≤ 120 = leb-true _ _ (all-at _ 1 e) in
-    header-length x (newHeader x) (rw (from-length (x .pages) 0) (omega arith))
-
 -- File i's header is stored in sector h; its slots stay zeros.
 pub files-turn : (l : Bytes) (i h : ℕ) (b : Bytes) → i < length l / 2 → every fileFits (drop i (filesOf l)) ≡ true
     → (w : Bytes)
@@ -76,21 +63,6 @@ file-pages l i lt fits =
     let h : pairAt l i .pages ≤ 120 = leb-true _ _ (all-at _ 1 (first-fits l i lt fits)) in
     omega arith
 
-files-new-length : (xs : List File) (h : ℕ) → every fileFits xs ≡ true → 256 * h + length (newFiles xs) ≡ 256 * sectorAfter h xs
-unfolding newFiles sectorAfter
-files-new-length [] h fits = omega arith
-files-new-length (x ∷ xs) h fits =
-    let z : Bytes = replicate (256 * x .slots) 0 in
-    let d : Bytes = encodeHeader x (newHeader x) in
-    let full : length d ≡ 256 = new-header-length x (and-left (fileFits x) _ fits) in
-    omega (
-      arith,
-      length-append d (z ++ newFiles xs),
-      length-append z (newFiles xs),
-      length-replicate {A = ℕ} (256 * x .slots) 0,
-      files-new-length xs (h + 1 + x .slots) (and-right (fileFits x) _ fits),
-    )
-
 -- ------------------------------------------------------------------ all of it
 pub laid-out : (t : Table) (a b c e : Bytes) → a ≡ replicate (256 * t .sectors) 0
     → length (t .files) ≤ 62 → every fileFits (t .files) ≡ true → endSector t ≤ t .sectors
@@ -108,5 +80,5 @@ laid-out t a b c e zeros few fits ends one records files =
     let behind : Puts 256 (r ++ f) b e = puts-more 256 (256 * (t .clients + 1)) r f b c e (omega arith) records files in
     let whole : Puts 0 (d ++ (r ++ f)) a e = puts-more 0 256 d (r ++ f) a b e (omega arith) (rw one (puts-store 0 d a full)) behind in
     let size : length (d ++ (r ++ f)) + n ≡ 256 * t .sectors =
-    omega (arith, length-append d (r ++ f), length-append r f, files-new-length (t .files) (t .clients + 1) fits) in
+    omega (arith, length-append d (r ++ f), length-append r f, new-files-length (t .files) (t .clients + 1) fits) in
     whole [] n refl (zeros ∙ rw size) ∙ rw (append-assoc d (r ++ f) (replicate n 0), append-assoc r f (replicate n 0))

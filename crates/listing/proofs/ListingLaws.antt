@@ -27,7 +27,7 @@ use Rattle.listing.specs.Lines.{clientLineOf, clientLines, fileLineOf, f
 use Rattle.listing.specs.Listed.{Listed, listed}
 use Rattle.listing.proofs.WritesLaws.{one-digit, below-100, any-number, wrote-more}
 use Rattle.listing.proofs.LinesLaws.{client-length, file-length}
-use Rattle.listing.proofs.ReadLaws.{few-clients, few-files}
+use Rattle.volume.proofs.ReadLaws.{few-clients, few-files}
 
 -- ------------------------------------------------------------------ how long it can be
 word-length : (s : ℕ) → length (stateWord s) ≤ 7

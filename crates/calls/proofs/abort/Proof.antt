@@ -1,5 +1,5 @@
 -- `abort` meets its contract: a refusal is the call's, and so are the stores of its plan.
-use mathlib.Core.Path.{_≡_, sym, ap, _∙_}
+use mathlib.Core.Path.{sym, ap, _∙_}
 use borrow.Author.Needs.{needs}
 use Rattle.rules.specs.Plans.{abort}
 use Rattle.calls.proofs.FactLaws.{call-known, same-tests, acts}

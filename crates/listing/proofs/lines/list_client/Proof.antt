@@ -4,7 +4,7 @@ use native.Mathlib.Omega.{arith}
 use borrow.Author.Needs.{needs}
 use Rattle.sector.specs.Sectors.{sector}
 use Rattle.volume.proofs.AccessLaws.{record-is}
-use Rattle.listing.proofs.ReadLaws.{record-inside}
+use Rattle.volume.proofs.ReadLaws.{record-inside}
 use Rattle.listing.proofs.lines.list_client.Statement.{statement}
 use Rattle.listing.proofs.lines.list_client.Tie as tie
 
@@ -14,7 +14,7 @@ size-requires c κs = search needs
 part-requires : tie.Need-part-requires
 part-requires c κs =
     let s = c .before .before .before in
-    (rw (c .size .ensures .0) (record-inside (s .args .v .now) (s .pre .0) (s .args .k) (s .pre .1) (s .pre .2)), omega arith)
+    (rw (c .size .ensures .0) (record-inside (s .args .v .now) (s .pre .0) (s .args .k) (record { low = s .pre .1; high = s .pre .2 })), omega arith)
 
 client-line-requires : tie.Need-client-line-requires
 client-line-requires c κs =

@@ -5,7 +5,7 @@ use native.Mathlib.Omega.{arith}
 use borrow.Author.Needs.{needs}
 use Rattle.volume.specs.Volumes.{view}
 use Rattle.listing.proofs.LinesLaws.{Writing, writing-starts, writing-room, writing-turn, writing-ends}
-use Rattle.listing.proofs.ReadLaws.{few-clients, table-inside, clients-read}
+use Rattle.volume.proofs.ReadLaws.{few-clients, table-inside, clients-in}
 use Rattle.listing.specs.Lines.{clientLineOf}
 use Rattle.listing.proofs.lines.list_clients.Statement.{statement}
 use Rattle.listing.proofs.lines.list_clients.Tie as tie
@@ -29,7 +29,7 @@ loop-holds c =
     let p = c .before in
     let s = p .before .before .before in
     let v = s .args .v .now in (
-      c .table-clients .ensures ∙ rw (p .part .ensures .0) (clients-read v (s .pre .0)),
+      c .table-clients .ensures ∙ rw (p .part .ensures .0) (clients-in v (s .pre .0)),
       writing-starts (clientLineOf (view v)) (view v .table .clients) (s .args .out .now) 0 (omega (arith, s .pre .1)),
     )
 

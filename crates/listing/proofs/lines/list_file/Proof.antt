@@ -5,7 +5,8 @@ use native.Mathlib.Omega.{arith}
 use borrow.Author.Needs.{needs}
 use Rattle.volume.specs.Places.{headerSector}
 use Rattle.volume.specs.Volumes.{view}
-use Rattle.listing.proofs.ReadLaws.{few-files, table-inside, header-read, header-inside, line-read}
+use Rattle.volume.proofs.ReadLaws.{few-files, table-inside}
+use Rattle.listing.proofs.ReadLaws.{header-read, header-room, line-read}
 use Rattle.listing.proofs.lines.list_file.Statement.{statement}
 use Rattle.listing.proofs.lines.list_file.Tie as tie
 
@@ -32,7 +33,7 @@ part-requires-2 c κs =
     let v = s .args .v .now in
     let read : c .file-header .result ≡ headerSector (view v .table) (s .args .f) =
     rw (p .part .ensures .0, c .before .size .ensures .0) at (c .file-header .ensures .0) ∙ header-read v (s .pre .0) (s .args .f) (s .pre .1) (s .pre .2) in
-    rw read (header-inside v (s .pre .0) (s .args .f) (s .pre .1) (s .pre .2))
+    rw read (header-room v (s .pre .0) (s .args .f) (s .pre .1) (s .pre .2))
 
 header-holder-requires : tie.Need-header-holder-requires
 header-holder-requires c κs = search needs

@@ -6,7 +6,7 @@ use borrow.Author.Needs.{needs}
 use lib.ListN.{length}
 use Rattle.volume.specs.Volumes.{view}
 use Rattle.listing.proofs.LinesLaws.{Writing, writing-starts, writing-room, writing-turn, writing-ends}
-use Rattle.listing.proofs.ReadLaws.{few-files, table-inside, files-read}
+use Rattle.volume.proofs.ReadLaws.{few-files, table-inside, files-in}
 use Rattle.listing.specs.Lines.{fileLineOf}
 use Rattle.listing.proofs.lines.list_files.Statement.{statement}
 use Rattle.listing.proofs.lines.list_files.Tie as tie
@@ -30,7 +30,7 @@ loop-holds c =
     let p = c .before in
     let s = p .before .before .before in
     let v = s .args .v .now in (
-      c .table-files .ensures ∙ rw (p .part .ensures .0) (files-read v (s .pre .0)),
+      c .table-files .ensures ∙ rw (p .part .ensures .0) (files-in v (s .pre .0)),
       writing-starts (fileLineOf (view v)) (length (view v .table .files)) (s .args .out .now) (s .args .start) (s .pre .1),
     )
 
