@@ -1,16 +1,100 @@
-// A crash-safe transactional volume in one lent byte array. A slice is a pointer and a count of bytes.
-// A reply is kind + 256 * session + 65536 * number; kind is 0 done, 1 cut, 2 refused, 3 sector.
+// A crash-safe transactional volume in one lent byte array. No call allocates or keeps anything; tests/stack measures that
+// each takes at most 1,024 bytes of stack on x86-64.
+//
+// A slice is a pointer and a count of bytes. The slices of one call must not overlap.
+// A reply is one number, kind + 256 * session + 65536 * number:
+//   kind 0, done: number is the count of stores; session is the one for the next call.
+//   kind 1, cut: the budget ran out; number is the count of stores made, all of them whole; session is a new one, 0.
+//   kind 2, refused: number is the refusal's, the lowest that applies; nothing was stored; session is the one given.
+//   kind 3, sector (vol_read only): number is the sector; session is 0.
+//
+// A session is a byte with bit k - 1 for client k (1 to 4) while that client's transaction runs. Start with 0, hand on the
+// session of each reply, and start with 0 again after a crash. A byte above 15 is no session: every call refuses it by 2, or
+// by 1 if the array isn't a sound volume. A budget is the number of sector stores that a call may make; 255 is never too few.
+//
+// Refusals:
+//    1  the array is not a sound volume           9  the file has no such page
+//    2  the session doesn't fit the volume       10  a page takes 256 bytes, no more and no fewer
+//    3  there is no such client                  11  the file has no slot left for a new page
+//    4  the client has a transaction running     12  the client's record is full (62 pages)
+//    5  the client has no transaction running    13  the length is not 256 * N, N at most 1,024
+//    6  there is no such file                    14  the number of clients or the shape is out of range
+//    7  another active client holds the file     15  the files need more sectors than there are
+//    8  the client doesn't hold the file
 #ifndef VOLUME_H
 #define VOLUME_H
 
 #include <stddef.h>
 #include <stdint.h>
 
-// Formats the array for `clients` clients and the files of `shape`, a list of pages and sectors of each file.
-// Reply: done, or refused by 13 (length), 14 (clients or shape out of range), 15 (too few sectors); a refusal changes nothing.
+#ifdef __cplusplus
+extern "C" {
+#endif
+
+// The parts of a reply.
+#define VOL_KIND(reply) ((unsigned)((reply) & 255))
+#define VOL_SESSION(reply) ((uint8_t)((reply) >> 8 & 255))
+#define VOL_NUMBER(reply) ((unsigned)((reply) >> 16))
+
+// The bytes that any listing fits in.
+#define VOL_LIST_ROOM 664
+
+// Formats the array for `clients` clients (1 to 4) and 1 to 16 files.
+// `shape` has two bytes for each file: its pages (1 to 120), then the sectors for them (at least its pages, at most 240).
+// Reply: done, with session 0 and number 0.
+// Refused by 13, 14, 15; the array is then as it was.
 uint64_t vol_format(uint8_t *volume, size_t len, uint8_t clients, const uint8_t *shape, size_t shape_len);
 
-// Whether the array is a sound volume: 1 or 0. Reads the control sectors only.
+// Whether the array is a sound volume: 1 or 0, and no kind, session or number.
+// It reads the control sectors only, so it can't tell whether a page was changed from outside.
+// Any array of any length may be given.
 uint64_t vol_is_sound(const uint8_t *volume, size_t len);
+
+// Starts a transaction of the client.
+// If an earlier transaction of this client was cut, it is recovered first: kept if it was decided, dropped if not.
+// Reply: done with the session that marks the client; cut; or refused.
+// Refused by 1, 2, 3, 4.
+uint64_t vol_begin(uint8_t *volume, size_t len, uint8_t session, uint8_t client, uint8_t budget);
+
+// Gives the file (1 to the number of files) to the client, until it commits or aborts.
+// If the holder's transaction was cut, that transaction is recovered first, in all its files.
+// Reply: done, without a store if the client holds the file already; cut; or refused.
+// Refused by 1, 2, 3, 5, 6, 7.
+uint64_t vol_open(uint8_t *volume, size_t len, uint8_t session, uint8_t client, uint8_t file, uint8_t budget);
+
+// Finds the page (from 0) of a file that the client holds, with the client's own writes. It stores nothing.
+// Reply: sector, and the page's 256 bytes are at volume + 256 * number until the next call that stores; or refused.
+// The reply's session is 0: go on with the session given.
+// Refused by 1, 2, 3, 5, 6, 8, 9.
+uint64_t vol_read(const uint8_t *volume, size_t len, uint8_t session, uint8_t client, uint8_t file, uint8_t page);
+
+// Writes 256 bytes as the page of a file that the client holds; others see them after the commit.
+// `bytes` must not lie in the volume: copy a page that was read before it is written elsewhere.
+// Reply: done with 2 stores, or 1 for a page that this transaction wrote before; cut; or refused.
+// Refused by 1, 2, 3, 5, 6, 8, 9, 10, 11, 12.
+uint64_t vol_write(uint8_t *volume, size_t len, uint8_t session, uint8_t client, uint8_t file, uint8_t page,
+                   const uint8_t *bytes, size_t bytes_len, uint8_t budget);
+
+// Ends the client's transaction: its pages become the files' content, all of them or none. It gives its files back.
+// Reply: done with the session that no longer marks the client; cut; or refused.
+// Cut with number 0, nothing is kept; cut with 1 or more, everything is: the next begin or open does the rest.
+// Refused by 1, 2, 3, 5.
+uint64_t vol_commit(uint8_t *volume, size_t len, uint8_t session, uint8_t client, uint8_t budget);
+
+// Ends the client's transaction: its pages are dropped, and it gives its files back.
+// Reply: done with the session that no longer marks the client; cut; or refused.
+// Cut, the pages are dropped as well: the next begin or open does the rest.
+// Refused by 1, 2, 3, 5.
+uint64_t vol_abort(uint8_t *volume, size_t len, uint8_t session, uint8_t client, uint8_t budget);
+
+// Writes the listing of the volume, ASCII text without a zero byte at its end, to the front of `out`.
+// The rest of `out` is as it was; `out` must not lie in the volume.
+// Answers the length of the text, and no kind, session or number.
+// Answers 0, and writes nothing, if `out` has less than 664 bytes or the array is not a sound volume.
+uint64_t vol_list(const uint8_t *volume, size_t len, uint8_t *out, size_t out_len);
+
+#ifdef __cplusplus
+}
+#endif
 
 #endif

@@ -1,7 +1,17 @@
 -- A reply as one number: kind + 256 × session + 65,536 × number. Kind is 0 for done, 1 for cut, 2 for refused, 3 for a sector.
 use mathlib.Core.Bool.{Bool, true, false}
-use Prim.Native.Nat.{ℕ, _+_, _*_}
-use Rattle.interface.specs.Answers.{FormatAnswer, formatDone, formatRefused}
+use mathlib.Core.List.{[], _∷_}
+use Prim.Native.Nat.{ℕ, _+_, _*_, _/_, _%_}
+use lib.Dec.{eqb, ltb}
+use lib.ListN.{getD}
+use Rattle.interface.specs.declared.Session.{Session}
+use Rattle.interface.specs.Answers.{Answer, done, crashed, refused, ReadAnswer, found, readRefused, FormatAnswer, formatDone, formatRefused}
+use Rattle.sector.specs.Lists.{if_then_else_}
+use Rattle.sector.specs.Sectors.{Volume}
+use Rattle.volume.specs.Sound.{sound}
+use Rattle.rules.specs.Plans.{Call}
+use Rattle.rules.specs.Calls.{After, call, read}
+use Rattle.listing.specs.declared.ListOutcome.{ListOutcome}
 
 -- The number that packs these.
 abbrev pub packed : (kind : ℕ) → (session : ℕ) → (number : ℕ) → ℕ
@@ -16,3 +26,60 @@ packedFormat (formatRefused n) = packed 2 0 n
 abbrev pub truth : Bool → ℕ
 truth true = 1
 truth false = 0
+
+-- ------------------------------------------------------------------ sessions
+-- What a mark adds to the byte.
+abbrev pub markWorth : Bool → ℕ → ℕ
+markWorth true worth = worth
+markWorth false worth = 0
+
+-- A session as a byte: 1, 2, 4 and 8 for the marks of clients 1 to 4.
+abbrev pub sessionByte : Session → ℕ
+sessionByte s =
+    markWorth (getD (s .active) 0 false) 1 + markWorth (getD (s .active) 1 false) 2
+    + markWorth (getD (s .active) 2 false) 4 + markWorth (getD (s .active) 3 false) 8
+
+-- A session from the low four bits of a byte.
+abbrev pub sessionOf : ℕ → Session
+sessionOf b = record { active = eqb (b % 2) 1 ∷ eqb (b / 2 % 2) 1 ∷ eqb (b / 4 % 2) 1 ∷ eqb (b / 8 % 2) 1 ∷ [] }
+
+-- ------------------------------------------------------------------ replies
+-- A call's answer, beside the byte of the session that it hands back.
+abbrev pub packedAnswer : Answer → (session : ℕ) → ℕ
+packedAnswer (done n) b = packed 0 b n
+packedAnswer (crashed n) b = packed 1 b n
+packedAnswer (refused n) b = packed 2 b n
+
+-- A read's answer. It hands back no session: the byte is 0.
+abbrev pub packedRead : ReadAnswer → ℕ
+packedRead (found n) = packed 3 0 n
+packedRead (readRefused n) = packed 2 0 n
+
+-- A byte above 15 is no session: refusal 2, or 1 if the volume isn't sound, since the lowest number is given.
+abbrev pub foreignReply : Volume → (session : ℕ) → ℕ
+foreignReply v b = packed 2 b (if sound v then 2 else 1)
+
+-- What a call hands back to C, and the volume that it leaves.
+pub record Packed : Type 0 where
+  pub reply : ℕ
+  pub volume : Volume
+
+-- The packed form of what a call answers and leaves.
+abbrev pub packedAfter : After → Packed
+packedAfter a = record { reply = packedAnswer (a .answer) (sessionByte (a .session)); volume = a .volume }
+
+-- A call given a session byte. A byte that is no session comes back as it was given, and every byte of the volume is kept.
+unfoldable pub calledBy : Volume → (session : ℕ) → Call → (budget : ℕ) → Packed
+calledBy v b c budget =
+    if ltb 15 b then record { reply = foreignReply v b; volume = v }
+    else packedAfter (call v (sessionOf b) c budget)
+
+-- A read given a session byte.
+unfoldable pub readBy : Volume → (session : ℕ) → (client : ℕ) → (file : ℕ) → (page : ℕ) → ℕ
+readBy v b k f p = if ltb 15 b then foreignReply v 0 else packedRead (read v (sessionOf b) k f p)
+
+-- The length of a listing; 0 if none was written.
+abbrev pub listedLength : ListOutcome → ℕ
+listedLength (ListOutcome.Listed n) = n
+listedLength ListOutcome.NotSound = 0
+listedLength ListOutcome.NoRoom = 0

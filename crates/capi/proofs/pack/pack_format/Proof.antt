@@ -1,7 +1,7 @@
 -- `pack_format` meets its contract: by the cases of the outcome.
 use borrow.Author.Needs.{needs}
-use Rattle.capi.proofs.pack_format.Statement.{statement}
-use Rattle.capi.proofs.pack_format.Tie as tie
+use Rattle.capi.proofs.pack.pack_format.Statement.{statement}
+use Rattle.capi.proofs.pack.pack_format.Tie as tie
 
 enum-told : tie.Need-enum-told
 enum-told c = search needs

@@ -1,0 +1,132 @@
+// Replies and sessions as numbers, and back.
+use interface::FormatOutcome;
+use interface::Outcome;
+use interface::ReadOutcome;
+use interface::Refusal;
+use interface::Reply;
+use interface::Session;
+use listing::ListOutcome;
+ghost use mathlib.Core.Path.{_≡_};
+ghost use Prim.Native.Nat.{_≤_};
+ghost use Rattle.interface.specs.Answers.{refusalNumber, answerOf, readAnswerOf, formatAnswerOf};
+ghost use Rattle.capi.specs.Packing.{packed, packedFormat, markWorth, sessionByte, sessionOf, packedAnswer, packedRead, foreignReply, listedLength};
+
+// The number of a refusal.
+fn refusal_number(r: Refusal) -> u64
+    ensures { λ n. ⌜ (n ≡ refusalNumber r) × (n ≤ 15) ⌝ }
+{
+    wide(interface::number(r))
+}
+
+// A format's outcome as a reply.
+pub fn pack_format(o: FormatOutcome) -> u64
+    ensures { λ r. ⌜ r ≡ packedFormat (formatAnswerOf o) ⌝ }
+{
+    match o {
+        FormatOutcome::Done => 0,
+        FormatOutcome::Refused(r) => 2 + 65536 * refusal_number(r),
+    }
+}
+
+// What a mark adds to the byte.
+fn mark_worth(mark: bool, worth: u64) -> u64
+    ensures { λ r. ⌜ (r ≡ markWorth mark worth) × (r ≤ worth) ⌝ }
+{
+    if mark {
+        return worth;
+    }
+    0
+}
+
+// A session as a byte.
+fn session_byte(s: Session) -> u64
+    ensures { λ r. ⌜ (r ≡ sessionByte s) × (r ≤ 15) ⌝ }
+{
+    mark_worth(s.active[0], 1)
+        + mark_worth(s.active[1], 2)
+        + mark_worth(s.active[2], 4)
+        + mark_worth(s.active[3], 8)
+}
+
+// A session from the low four bits of a byte.
+pub fn session_of(b: u8) -> Session
+    ensures { λ r. ⌜ r ≡ sessionOf b ⌝ }
+{
+    Session {
+        active: [b % 2 == 1, b / 2 % 2 == 1, b / 4 % 2 == 1, b / 8 % 2 == 1],
+    }
+}
+
+// A byte as a number of a reply.
+fn wide(n: u8) -> u64
+    ensures { λ r. ⌜ (r ≡ n) × (r ≤ 255) ⌝ }
+{
+    n as u64
+}
+
+// A sector's number as a number of a reply.
+fn wide_sector(n: u16) -> u64
+    ensures { λ r. ⌜ (r ≡ n) × (r ≤ 65535) ⌝ }
+{
+    n as u64
+}
+
+// The number that packs these.
+fn join(kind: u64, session: u64, number: u64) -> u64
+    requires { ⌜ (kind ≤ 3) × (session ≤ 255) × (number ≤ 65535) ⌝ }
+    ensures { λ r. ⌜ r ≡ packed kind session number ⌝ }
+{
+    kind + 256 * session + 65536 * number
+}
+
+// An outcome, beside the byte of the session.
+fn pack_outcome(o: Outcome, session: u64) -> u64
+    requires { ⌜ session ≤ 15 ⌝ }
+    ensures { λ r. ⌜ r ≡ packedAnswer (answerOf o) session ⌝ }
+{
+    match o {
+        Outcome::Done(n) => join(0, session, wide(n)),
+        Outcome::Crashed(n) => join(1, session, wide(n)),
+        Outcome::Refused(r) => join(2, session, refusal_number(r)),
+    }
+}
+
+// A reply as one number.
+pub fn pack(r: Reply) -> u64
+    ensures { λ n. ⌜ n ≡ packedAnswer (answerOf (r .outcome)) (sessionByte (r .session)) ⌝ }
+{
+    let s = r.session;
+    let o = r.outcome;
+    pack_outcome(o, session_byte(s))
+}
+
+// A read's outcome as one number.
+pub fn pack_read(o: ReadOutcome) -> u64
+    ensures { λ r. ⌜ r ≡ packedRead (readAnswerOf o) ⌝ }
+{
+    match o {
+        ReadOutcome::Sector(n) => join(3, 0, wide_sector(n)),
+        ReadOutcome::Refused(r) => join(2, 0, refusal_number(r)),
+    }
+}
+
+// The length of a listing, or 0.
+pub fn pack_list(o: ListOutcome) -> u64
+    ensures { λ r. ⌜ r ≡ listedLength o ⌝ }
+{
+    match o {
+        ListOutcome::Listed(n) => n as u64,
+        ListOutcome::NotSound => 0,
+        ListOutcome::NoRoom => 0,
+    }
+}
+
+// The reply to a byte that is no session.
+pub fn foreign(v: &[u8], session: u8) -> u64
+    ensures { λ r. ⌜ r ≡ foreignReply (now (v .entry)) session ⌝ }
+{
+    if soundness::is_sound(v) {
+        return join(2, wide(session), 2);
+    }
+    join(2, wide(session), 1)
+}
