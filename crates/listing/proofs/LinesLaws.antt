@@ -11,7 +11,7 @@ use Rattle.sector.specs.Lists.{from}
 use Rattle.sector.specs.Contents.{Bytes, File, Record, Header}
 use Rattle.sector.specs.Decoding.{stateIn, countIn, decodeRecord}
 use Rattle.sector.proofs.CodecLaws.{decoded-count}
-use Rattle.volume.specs.Listing.{decimal, stateWord, kilnText, sectorsText, pagesText, clientLine, fileLine, lines}
+use Rattle.volume.specs.Listing.{decimal, stateWord, clientText, sectorsText, pagesText, clientLine, fileLine, lines}
 use Rattle.listing.specs.Writes.{Wrote}
 use Rattle.listing.proofs.WritesLaws.{wrote-none, wrote-more}
 
@@ -31,7 +31,7 @@ module _ (k : ℕ) (d : Bytes) where
   client-room = client-length k (decodeRecord d) ∙ rw (decoded-count d)
 
   pub client-parts : clientLine k (decodeRecord d)
-      ≡ (kilnText ++ decimal k) ++ ((0x20 ∷ stateWord (stateIn d)) ++ ((0x20 ∷ decimal (countIn d)) ++ (0x0A ∷ [])))
+      ≡ (clientText ++ decimal k) ++ ((0x20 ∷ stateWord (stateIn d)) ++ ((0x20 ∷ decimal (countIn d)) ++ (0x0A ∷ [])))
   unfolding clientLine decodeRecord
   client-parts = rw (decoded-count d)
 
@@ -45,7 +45,7 @@ file-length f h x =
     let o : Bytes = decimal (h .holder) ++ (pagesText ++ p) in
     omega (
       arith,
-      length-append (decimal f) (0x20 ∷ (kilnText ++ o)),
+      length-append (decimal f) (0x20 ∷ (clientText ++ o)),
       length-append (decimal (h .holder)) (pagesText ++ p),
       length-append (decimal (x .pages)) (sectorsText ++ s),
       length-append (decimal (x .slots)) (0x0A ∷ []),

@@ -30,8 +30,8 @@ stateWord s =
     else 0x64 ∷ 0x65 ∷ 0x63 ∷ 0x69 ∷ 0x64 ∷ 0x65 ∷ 0x64 ∷ []
 
 -- `kiln `
-abbrev pub kilnText : Bytes
-kilnText = 0x6B ∷ 0x69 ∷ 0x6C ∷ 0x6E ∷ 0x20 ∷ []
+abbrev pub clientText : Bytes
+clientText = 0x6B ∷ 0x69 ∷ 0x6C ∷ 0x6E ∷ 0x20 ∷ []
 
 -- `file `
 abbrev pub fileText : Bytes
@@ -47,12 +47,12 @@ sectorsText = 0x20 ∷ 0x73 ∷ 0x65 ∷ 0x63 ∷ 0x74 ∷ 0x6F ∷ 0x72 ∷ 0x7
 
 -- `kiln 1 decided 2`: "kiln, state word (idle, open, decided), C".
 unfoldable pub clientLine : ℕ → Record → Bytes
-clientLine k r = kilnText ++ (decimal k ++ (0x20 ∷ (stateWord (r .state) ++ (0x20 ∷ (decimal (length (r .entries)) ++ (0x0A ∷ []))))))
+clientLine k r = clientText ++ (decimal k ++ (0x20 ∷ (stateWord (r .state) ++ (0x20 ∷ (decimal (length (r .entries)) ++ (0x0A ∷ []))))))
 
 -- `file 1 kiln 1 pages 2 sectors 3`: "file, holder or 0, P, R".
 unfoldable pub fileLine : ℕ → Header → File → Bytes
 fileLine f h x =
-    fileText ++ (decimal f ++ (0x20 ∷ (kilnText ++ (decimal (h .holder)
+    fileText ++ (decimal f ++ (0x20 ∷ (clientText ++ (decimal (h .holder)
     ++ (pagesText ++ (decimal (x .pages) ++ (sectorsText ++ (decimal (x .slots) ++ (0x0A ∷ [])))))))))
 
 -- A line for each number.
