@@ -1,0 +1,421 @@
+//! Two engines side by side, and the book beside them.
+//!
+//! A [`World`] plays the lines of a script on both engines. After every call
+//! it compares replies and every byte of the two volumes, tests the rules
+//! that each call keeps whatever its arguments, and, from a layout on and
+//! without damage or foreign sessions, sets the decided content and each read
+//! against the book.
+
+use crate::book::Book;
+use crate::call::{Answer, Call};
+use crate::content;
+use crate::engine::{Engine, Reply};
+use crate::posix::{Lender, Placement, Shared};
+use crate::script::{Line, MAX_DATA, MAX_INPUT, MAX_VOLUME};
+use crate::volume::{self, Session, SECTOR_SIZE};
+
+/// What the driver counts, as places in the shared tallies.
+pub mod tally {
+    pub const RUNS: usize = 0;
+    pub const FORMATS: usize = 1;
+    pub const CALLS: usize = 2;
+    pub const DONE: usize = 3;
+    pub const CUT: usize = 4;
+    pub const SECTOR: usize = 5;
+    /// Refusal n is counted at this place + n.
+    pub const REFUSED: usize = 6;
+    pub const AGAINST_BOOK: usize = 22;
+    pub const READS_AGAINST_BOOK: usize = 23;
+    pub const LISTINGS: usize = 24;
+    pub const FLIPS: usize = 25;
+    pub const FLIPS_SOUND: usize = 26;
+    pub const CRAFTED: usize = 27;
+    pub const CRAFTED_SOUND: usize = 28;
+    pub const CUT_SWEEPS: usize = 29;
+    pub const PREFIXES: usize = 30;
+}
+
+/// Up to this length every shorter budget of a call is tried as well.
+const PREFIX_LIMIT: usize = 64 * SECTOR_SIZE;
+
+pub struct World {
+    engines: [Engine; 2],
+    volumes: [Lender; 2],
+    /// The second engine gets its data from here.
+    data: Lender,
+    /// The script's buffer, whose first bytes the volumes are copies of. It
+    /// is brought up to date when another length is lent.
+    buffer: Vec<u8>,
+    length: usize,
+    session: u8,
+    book: Option<Book>,
+    /// The volume before the call in progress.
+    before: Vec<u8>,
+    shared: &'static Shared,
+    /// Whether each line is noted in the shared text before it is played.
+    tracing: bool,
+}
+
+/// A state to come back to.
+pub struct Snapshot {
+    bytes: Vec<u8>,
+    session: u8,
+    book: Option<Book>,
+    text_length: usize,
+}
+
+type Check = Result<(), String>;
+
+impl World {
+    /// The second engine's arrays stand at `placement`.
+    pub fn new(placement: Placement, shared: &'static Shared, tracing: bool) -> World {
+        World {
+            engines: [Engine::Model, Engine::second()],
+            volumes: [Lender::new(MAX_VOLUME, Placement::Plain), Lender::new(MAX_VOLUME, placement)],
+            data: Lender::new(MAX_DATA, placement),
+            buffer: vec![0; MAX_VOLUME],
+            length: 0,
+            session: 0,
+            book: None,
+            before: Vec::with_capacity(MAX_VOLUME),
+            shared,
+            tracing,
+        }
+    }
+
+    /// As before the first line of a script.
+    pub fn reset(&mut self) {
+        self.buffer.fill(0);
+        self.length = 0;
+        self.session = 0;
+        self.book = None;
+    }
+
+    pub fn volume(&self) -> &[u8] {
+        self.volumes[0].bytes(self.length)
+    }
+
+    pub fn session(&self) -> u8 {
+        self.session
+    }
+
+    pub fn shared(&self) -> &'static Shared {
+        self.shared
+    }
+
+    pub fn snapshot(&self) -> Snapshot {
+        Snapshot {
+            bytes: self.volume().to_vec(),
+            session: self.session,
+            book: self.book.clone(),
+            text_length: self.shared.text_length(),
+        }
+    }
+
+    /// Goes back to a state of the same length; the lines since then are
+    /// forgotten.
+    pub fn restore(&mut self, snapshot: &Snapshot) {
+        for lender in &mut self.volumes {
+            lender.array(self.length).copy_from_slice(&snapshot.bytes);
+        }
+        self.session = snapshot.session;
+        self.book.clone_from(&snapshot.book);
+        if self.tracing {
+            self.shared.cut_text(snapshot.text_length);
+        }
+    }
+
+    /// Plays one line and answers what the call or layout answered.
+    pub fn play(&mut self, line: &Line) -> Result<Option<Answer>, String> {
+        if self.tracing {
+            self.shared.add_text(&format!("{line}\n"));
+        }
+        match line {
+            Line::Format { length, clients, shape } => return self.format(*length, *clients, shape).map(Some),
+            Line::Call(call) => return self.call(call).map(Some),
+            Line::Session(marks) => self.take_session(*marks),
+            Line::Poke { address, byte } => self.poke(*address, *byte),
+            Line::Dump(_) => {}
+            Line::List => self.list()?,
+        }
+        Ok(None)
+    }
+
+    // ------------------------------------------------------------ the lines
+
+    fn take_session(&mut self, marks: u8) {
+        // A new session is a crash between calls, which the book allows; any
+        // other session that wasn't handed back is foreign to it.
+        if marks != 0 && marks != self.session {
+            self.book = None;
+        }
+        self.session = marks;
+    }
+
+    fn poke(&mut self, address: usize, byte: u8) {
+        for lender in &mut self.volumes {
+            if let Some(place) = lender.array(self.length).get_mut(address) {
+                *place = byte;
+            }
+        }
+        self.book = None;
+    }
+
+    fn list(&mut self) -> Check {
+        self.shared.count(tally::LISTINGS);
+        let [first, second] = [0, 1].map(|index| self.volumes[index].bytes(self.length));
+        if first.len() > MAX_INPUT || !volume::is_sound(first) {
+            return Ok(());
+        }
+        let mut texts = [[0; 1024]; 2];
+        let lengths = [self.engines[0].list(first, &mut texts[0]), self.engines[1].list(second, &mut texts[1])];
+        expect(lengths[0] == lengths[1], || format!("listings of {lengths:?} bytes"))?;
+        expect(texts[0] == texts[1], || "the listings differ".into())
+    }
+
+    fn format(&mut self, length: usize, clients: u8, shape: &[u8]) -> Result<Answer, String> {
+        self.shared.count(tally::FORMATS);
+        self.relend(length);
+        self.keep_before();
+        let replies = [0, 1].map(|index| {
+            let volume = self.volumes[index].array(length);
+            self.engines[index].format(volume, clients, shape)
+        });
+        expect(replies[0] == replies[1], || differing(replies))?;
+        self.same_bytes()?;
+        self.session = 0;
+        self.book = None;
+        let answer = replies[0].answer().ok_or("the reply of the layout is none")?;
+        self.count_answer(answer);
+        if let Answer::Refused(_) = answer {
+            self.unchanged()?;
+        } else {
+            expect(volume::is_sound(self.volume()), || "not sound after the layout".into())?;
+            self.book = Some(Book::new(shape));
+            self.content_as_booked()?;
+        }
+        Ok(answer)
+    }
+
+    /// Lends another number of bytes from the start of the same buffer.
+    fn relend(&mut self, length: usize) {
+        self.buffer[..self.length].copy_from_slice(self.volumes[0].bytes(self.length));
+        for lender in &mut self.volumes {
+            lender.array(length).copy_from_slice(&self.buffer[..length]);
+        }
+        self.length = length;
+    }
+
+    fn call(&mut self, call: &Call) -> Result<Answer, String> {
+        self.shared.count(tally::CALLS);
+        self.keep_before();
+        let given = self.session;
+        let replies = self.replies(given, call);
+        self.same_replies(given, call, replies)?;
+        self.same_bytes()?;
+        self.same_soundness()?;
+        let answer = replies[0].answer().ok_or("the reply is none")?;
+        self.count_answer(answer);
+        self.rules_kept(given, call, replies[0], answer)?;
+        if !matches!(call, Call::Read { .. }) {
+            self.session = replies[0].session();
+        }
+        self.against_book(given, call, answer)?;
+        Ok(answer)
+    }
+
+    fn replies(&mut self, given: u8, call: &Call) -> [Reply; 2] {
+        let first = self.engines[0].call(self.volumes[0].array(self.length), given, call);
+        let mut lent = *call;
+        if let Call::Write { data, .. } = &mut lent {
+            let copy = self.data.array(data.len());
+            copy.copy_from_slice(data);
+            *data = copy;
+        }
+        let second = self.engines[1].call(self.volumes[1].array(self.length), given, &lent);
+        [first, second]
+    }
+
+    // ------------------------------------------------------- the comparisons
+
+    fn same_replies(&self, given: u8, call: &Call, replies: [Reply; 2]) -> Check {
+        let mut compared = replies;
+        // What a read hands back for a byte that is no session is left open.
+        if given > 15 && matches!(call, Call::Read { .. }) {
+            compared = compared.map(Reply::without_session);
+        }
+        expect(compared[0] == compared[1], || differing(replies))
+    }
+
+    fn same_bytes(&self) -> Check {
+        let [first, second] = [0, 1].map(|index| self.volumes[index].bytes(self.length));
+        expect(first == second, || {
+            let at = first.iter().zip(second).position(|(a, b)| a != b).unwrap_or(0);
+            format!("byte {at} (sector {}) is {:02X} and {:02X}", at / SECTOR_SIZE, first[at], second[at])
+        })
+    }
+
+    fn same_soundness(&self) -> Check {
+        let [first, second] = [0, 1].map(|index| self.engines[index].is_sound(self.volumes[index].bytes(self.length)));
+        expect(first == second, || format!("sound: {first} and {second}"))
+    }
+
+    // ------------------------------------------- the rules of every call
+
+    fn rules_kept(&mut self, given: u8, call: &Call, reply: Reply, answer: Answer) -> Check {
+        match answer {
+            Answer::Refused(number) => {
+                self.unchanged()?;
+                self.empty_page(given, call)?;
+                // From a layout on, the session handed back always fits.
+                expect(self.book.is_none() || number > 2, || format!("refused {number} without damage"))?;
+                let read = matches!(call, Call::Read { .. });
+                expect(read || reply.session() == given, || "a refusal changed the session".into())
+            }
+            Answer::Sector(sector) => {
+                self.unchanged()?;
+                self.page_is_sector(given, call, sector)
+            }
+            Answer::Done(count) => {
+                expect(Some(count) <= call.budget(), || "done above the budget".into())?;
+                expect(reply.session() == session_after(given, call), || "done with a wrong session".into())?;
+                self.stored(given, call, count)
+            }
+            Answer::Cut(count) => {
+                expect(Some(count) == call.budget(), || "cut before the budget was used".into())?;
+                expect(reply.session() == 0, || "a cut keeps a mark".into())?;
+                self.stored(given, call, count)
+            }
+        }
+    }
+
+    fn unchanged(&self) -> Check {
+        expect(self.volume() == self.before, || "bytes were changed without a store".into())
+    }
+
+    /// The volume after `count` stores of a call that wasn't refused.
+    fn stored(&self, given: u8, call: &Call, count: u8) -> Check {
+        expect(volume::is_sound(&self.before), || "a call on an unsound volume".into())?;
+        expect(volume::is_sound(self.volume()), || "not sound after the call".into())?;
+        let changed = sectors_that_differ(&self.before, self.volume());
+        expect(changed <= usize::from(count), || format!("{changed} sectors changed by {count} stores"))?;
+        if self.length <= PREFIX_LIMIT {
+            self.prefixes_kept(given, call, count)?;
+        }
+        Ok(())
+    }
+
+    /// Each shorter budget makes one store more than the one before it, and
+    /// the last of them is one store short of what was made.
+    fn prefixes_kept(&self, given: u8, call: &Call, count: u8) -> Check {
+        let session = Session::from_bits(given).ok_or("a byte above 15 was taken")?;
+        let mut last = self.before.clone();
+        for budget in 0..count {
+            self.shared.count(tally::PREFIXES);
+            let mut next = self.before.clone();
+            let reply = call.with_budget(budget).make(&mut next, session);
+            let expected = (Session::new(), Answer::Cut(budget));
+            expect(reply == expected, || format!("with budget {budget} the call answers {reply:?}"))?;
+            let changed = sectors_that_differ(&last, &next);
+            expect(changed <= 1, || format!("store {budget} changes {changed} sectors"))?;
+            last = next;
+        }
+        let changed = sectors_that_differ(&last, self.volume());
+        expect(changed <= 1, || format!("the last store changes {changed} sectors"))
+    }
+
+    /// The second call of read hands back the very part of the lent array.
+    fn page_is_sector(&self, given: u8, call: &Call, sector: u16) -> Check {
+        let part = self.page(given, call);
+        let expected = sector_of(self.volume(), sector);
+        expect(part.as_ptr_range() == expected.as_ptr_range(), || "the page isn't the sector itself".into())
+    }
+
+    fn empty_page(&self, given: u8, call: &Call) -> Check {
+        expect(self.page(given, call).is_empty(), || "a refused read hands back a page".into())
+    }
+
+    fn page(&self, given: u8, call: &Call) -> &[u8] {
+        match (*call, Session::from_bits(given)) {
+            (Call::Read { client, file, page }, Some(session)) => {
+                volume::page(self.volume(), session, client, file, page)
+            }
+            _ => &[],
+        }
+    }
+
+    // --------------------------------------------------------- the book
+
+    fn against_book(&mut self, given: u8, call: &Call, answer: Answer) -> Check {
+        let (Some(book), Some(session)) = (&mut self.book, Session::from_bits(given)) else {
+            return Ok(());
+        };
+        book.feed(session, call, answer);
+        if let (Call::Read { client, file, page }, Answer::Sector(sector)) = (*call, answer) {
+            self.shared.count(tally::READS_AGAINST_BOOK);
+            let shown = book.shows(client, file, page);
+            let found = sector_of(self.volumes[0].bytes(self.length), sector);
+            expect(shown == Some(found), || "the read isn't what the book shows".into())?;
+        }
+        self.content_as_booked()
+    }
+
+    fn content_as_booked(&self) -> Check {
+        self.shared.count(tally::AGAINST_BOOK);
+        match &self.book {
+            Some(book) => expect(content::decided_pages(self.volume()).eq(book.pages()), || {
+                "the decided content isn't the book's".into()
+            }),
+            None => Ok(()),
+        }
+    }
+
+    // ------------------------------------------------------------ parts of the checks
+
+    fn keep_before(&mut self) {
+        self.before.clear();
+        self.before.extend_from_slice(self.volumes[0].bytes(self.length));
+    }
+
+    fn count_answer(&self, answer: Answer) {
+        self.shared.count(match answer {
+            Answer::Done(_) => tally::DONE,
+            Answer::Cut(_) => tally::CUT,
+            Answer::Sector(_) => tally::SECTOR,
+            Answer::Refused(number) => tally::REFUSED + usize::from(number.min(15)),
+        });
+    }
+}
+
+fn expect(holds: bool, message: impl FnOnce() -> String) -> Check {
+    if holds {
+        Ok(())
+    } else {
+        Err(message())
+    }
+}
+
+/// The session that a call hands back when it is done.
+fn session_after(given: u8, call: &Call) -> u8 {
+    match *call {
+        Call::Begin { client, .. } => given | 1 << (client - 1),
+        Call::Commit { client, .. } | Call::Abort { client, .. } => given & !(1 << (client - 1)),
+        Call::Open { .. } | Call::Write { .. } | Call::Read { .. } => given,
+    }
+}
+
+fn differing(replies: [Reply; 2]) -> String {
+    let [first, second] = replies.map(|reply| match reply.answer() {
+        Some(answer) => format!("{answer} with session {}", reply.session()),
+        None => format!("the number {:#x}", reply.0),
+    });
+    format!("the model answers {first}, the other {second}")
+}
+
+fn sectors_that_differ(first: &[u8], second: &[u8]) -> usize {
+    first.chunks(SECTOR_SIZE).zip(second.chunks(SECTOR_SIZE)).filter(|(a, b)| a != b).count()
+}
+
+fn sector_of(volume: &[u8], number: u16) -> &[u8] {
+    &volume[SECTOR_SIZE * usize::from(number)..][..SECTOR_SIZE]
+}

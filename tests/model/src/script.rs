@@ -1,0 +1,259 @@
+//! Scripts of calls: one line each, read, printed and run.
+//!
+//! A line is a word and decimal numbers with single spaces between them,
+//! ended by 0A. Empty lines and lines that begin with `#` are passed over.
+
+use std::fmt;
+use std::io::{self, Write};
+
+use crate::call::{Answer, Call};
+use crate::volume::{self, Session, MAX_LISTING, SECTOR_SIZE};
+
+/// The bytes that a script can lend: one sector more than a volume may have.
+pub const MAX_VOLUME: usize = 262_400;
+pub const MAX_SHAPE: usize = 64;
+pub const MAX_DATA: usize = 512;
+/// The longest script, and the longest volume of the listing program.
+pub const MAX_INPUT: usize = 65_536;
+
+/// One line that does something.
+#[derive(Clone, Debug, PartialEq, Eq)]
+pub enum Line {
+    Format {
+        length: usize,
+        clients: u8,
+        shape: Vec<u8>,
+    },
+    Call(Call<'static>),
+    /// The session as a byte of bits.
+    Session(u8),
+    Poke {
+        address: usize,
+        byte: u8,
+    },
+    Dump(usize),
+    List,
+}
+
+// ---------------------------------------------------------------- the data
+
+/// The bytes 0, 1, 2 .. over and over: every data of a script is a part of it.
+static RAMP: [u8; 255 + MAX_DATA] = ramp();
+
+const fn ramp() -> [u8; 255 + MAX_DATA] {
+    let mut bytes = [0; 255 + MAX_DATA];
+    let mut index = 0;
+    while index < bytes.len() {
+        bytes[index] = (index % 256) as u8;
+        index += 1;
+    }
+    bytes
+}
+
+/// Data of `length` bytes, at most 512; byte i is (seed + i) mod 256.
+pub fn data(seed: u8, length: usize) -> &'static [u8] {
+    &RAMP[usize::from(seed)..][..length]
+}
+
+// -------------------------------------------------------------- the reading
+
+/// Reads one line without its 0A.
+pub fn parse(text: &[u8]) -> Option<Line> {
+    let mut words = text.split(|&byte| byte == b' ');
+    let word = words.next()?;
+    let numbers: Vec<usize> = words.map(number).collect::<Option<_>>()?;
+    Some(match (word, &numbers[..]) {
+        (b"format", &[length, clients, ref shape @ ..]) if length <= MAX_VOLUME && shape.len() <= MAX_SHAPE => {
+            let shape = shape.iter().map(|&value| byte(value)).collect::<Option<_>>()?;
+            Line::Format { length, clients: byte(clients)?, shape }
+        }
+        (b"session", &[marks]) if marks < 16 => Line::Session(byte(marks)?),
+        (b"poke", &[address, value]) => Line::Poke { address, byte: byte(value)? },
+        (b"dump", &[sector]) => Line::Dump(sector),
+        (b"list", []) => Line::List,
+        _ => Line::Call(parse_call(word, &numbers)?),
+    })
+}
+
+fn parse_call(word: &[u8], numbers: &[usize]) -> Option<Call<'static>> {
+    Some(match (word, numbers) {
+        (b"begin", &[client, ref rest @ ..]) => Call::Begin { client: byte(client)?, budget: budget(rest)? },
+        (b"open", &[client, file, ref rest @ ..]) => {
+            Call::Open { client: byte(client)?, file: byte(file)?, budget: budget(rest)? }
+        }
+        (b"read", &[client, file, page]) => Call::Read { client: byte(client)?, file: byte(file)?, page: byte(page)? },
+        (b"write", &[client, file, page, seed, length, ref rest @ ..]) if length <= MAX_DATA => Call::Write {
+            client: byte(client)?,
+            file: byte(file)?,
+            page: byte(page)?,
+            data: data(byte(seed)?, length),
+            budget: budget(rest)?,
+        },
+        (b"commit", &[client, ref rest @ ..]) => Call::Commit { client: byte(client)?, budget: budget(rest)? },
+        (b"abort", &[client, ref rest @ ..]) => Call::Abort { client: byte(client)?, budget: budget(rest)? },
+        _ => return None,
+    })
+}
+
+/// A decimal number: one digit or more and nothing else.
+fn number(word: &[u8]) -> Option<usize> {
+    if word.is_empty() {
+        return None;
+    }
+    word.iter().try_fold(0usize, |value, digit| {
+        let digit = digit.is_ascii_digit().then(|| usize::from(digit - b'0'))?;
+        value.checked_mul(10)?.checked_add(digit)
+    })
+}
+
+fn byte(value: usize) -> Option<u8> {
+    value.try_into().ok()
+}
+
+/// The budget at the end of a line; 255 if it is left out.
+fn budget(rest: &[usize]) -> Option<u8> {
+    match *rest {
+        [] => Some(255),
+        [value] => byte(value),
+        _ => None,
+    }
+}
+
+// ------------------------------------------------------------- the printing
+
+impl fmt::Display for Line {
+    fn fmt(&self, f: &mut fmt::Formatter) -> fmt::Result {
+        match self {
+            Line::Format { length, clients, shape } => {
+                write!(f, "format {length} {clients}")?;
+                shape.iter().try_for_each(|number| write!(f, " {number}"))
+            }
+            Line::Call(call) => write!(f, "{call}"),
+            Line::Session(marks @ ..16) => write!(f, "session {marks}"),
+            // No script can give such a byte, so it stands there as a remark.
+            Line::Session(marks) => write!(f, "# session {marks}"),
+            Line::Poke { address, byte } => write!(f, "poke {address} {byte}"),
+            Line::Dump(sector) => write!(f, "dump {sector}"),
+            Line::List => f.write_str("list"),
+        }
+    }
+}
+
+/// The data of a call is taken to be a part of the ramp.
+impl fmt::Display for Call<'_> {
+    fn fmt(&self, f: &mut fmt::Formatter) -> fmt::Result {
+        match *self {
+            Call::Begin { client, .. } => write!(f, "begin {client}")?,
+            Call::Open { client, file, .. } => write!(f, "open {client} {file}")?,
+            Call::Read { client, file, page } => write!(f, "read {client} {file} {page}")?,
+            Call::Write { client, file, page, data, .. } => {
+                let seed = data.first().unwrap_or(&0);
+                write!(f, "write {client} {file} {page} {seed} {}", data.len())?;
+            }
+            Call::Commit { client, .. } => write!(f, "commit {client}")?,
+            Call::Abort { client, .. } => write!(f, "abort {client}")?,
+        }
+        match self.budget() {
+            None | Some(255) => Ok(()),
+            Some(budget) => write!(f, " {budget}"),
+        }
+    }
+}
+
+// -------------------------------------------------------------- the running
+
+/// Runs a script and writes what its lines print.
+pub fn run(input: &[u8], out: &mut impl Write) -> io::Result<()> {
+    let mut player = Player::new();
+    for (index, line) in input.split_inclusive(|&byte| byte == b'\n').enumerate() {
+        // A rest without its 0A isn't a line.
+        let understood = match line.split_last() {
+            Some((b'\n', [] | [b'#', ..])) => true,
+            Some((b'\n', text)) => match parse(text) {
+                Some(line) => player.play(&line, out)?,
+                None => false,
+            },
+            _ => false,
+        };
+        if !understood {
+            return writeln!(out, "line {}: not understood", index + 1);
+        }
+    }
+    Ok(())
+}
+
+/// What the listing program prints for a volume.
+pub fn listing(volume: &[u8]) -> String {
+    if volume.len() > MAX_INPUT {
+        return "too long\n".into();
+    }
+    let mut text = [0; MAX_LISTING];
+    match volume::list(volume, &mut text) {
+        Some(length) => String::from_utf8_lossy(&text[..length]).into_owned(),
+        None => "not sound\n".into(),
+    }
+}
+
+/// The volume and session of a running script.
+struct Player {
+    buffer: Vec<u8>,
+    /// The volume is the first so many bytes of the buffer.
+    length: usize,
+    session: Session,
+}
+
+impl Player {
+    fn new() -> Player {
+        Player { buffer: vec![0; MAX_VOLUME], length: 0, session: Session::new() }
+    }
+
+    fn volume(&mut self) -> &mut [u8] {
+        &mut self.buffer[..self.length]
+    }
+
+    /// Answers false if the line names a place outside the volume.
+    fn play(&mut self, line: &Line, out: &mut impl Write) -> io::Result<bool> {
+        match line {
+            Line::Format { length, clients, shape } => {
+                self.length = *length;
+                self.session = Session::new();
+                match volume::format(self.volume(), *clients, shape) {
+                    Ok(()) => writeln!(out, "done")?,
+                    Err(number) => writeln!(out, "refused {number}")?,
+                }
+            }
+            Line::Call(call) => self.call(call, out)?,
+            Line::Session(marks) => match Session::from_bits(*marks) {
+                Some(session) => self.session = session,
+                None => return Ok(false),
+            },
+            Line::Poke { address, byte } => match self.volume().get_mut(*address) {
+                Some(place) => *place = *byte,
+                None => return Ok(false),
+            },
+            Line::Dump(number) => match self.volume().chunks_exact(SECTOR_SIZE).nth(*number) {
+                Some(sector) => writeln!(out, "{}", hex(sector))?,
+                None => return Ok(false),
+            },
+            Line::List => out.write_all(listing(self.volume()).as_bytes())?,
+        }
+        Ok(true)
+    }
+
+    fn call(&mut self, call: &Call, out: &mut impl Write) -> io::Result<()> {
+        let before = self.session;
+        let (after, answer) = call.make(self.volume(), before);
+        self.session = after;
+        match (*call, answer) {
+            (Call::Read { client, file, page }, Answer::Sector(_)) => {
+                let part = volume::page(self.volume(), before, client, file, page);
+                writeln!(out, "{answer} {}", hex(part))
+            }
+            _ => writeln!(out, "{answer}"),
+        }
+    }
+}
+
+fn hex(bytes: &[u8]) -> String {
+    bytes.iter().map(|byte| format!("{byte:02X}")).collect()
+}
