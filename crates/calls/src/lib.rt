@@ -105,8 +105,8 @@ fn page_sector(v: &[u8], k: u8, f: u8, p: u8) -> u16
     (h + 1 + r) as u16
 }
 
-// The page itself: the part of the volume that `read` names, or an empty part where it refuses. It is wrong to hand back a
-// copy, and wrong to hand back anything on a refusal.
+// The page itself: the part of the volume that `read` names, or an empty part where it refuses. It is wrong to hand back
+// another page's part, and wrong to hand back anything on a refusal.
 pub fn page(v: &[u8], s: Session, k: u8, f: u8, p: u8) -> &[u8]
     ensures { λ r. ⌜ now r ≡ readPart (now (v .entry)) s k f p ⌝ }
 {

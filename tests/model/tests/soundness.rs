@@ -6,16 +6,6 @@ use common::*;
 use model::script::listing;
 use model::volume::{is_sound, list};
 
-fn in_use() -> Desk {
-    let mut desk = Desk::v();
-    desk.begin(1);
-    desk.open(1, 1);
-    desk.open(1, 2);
-    desk.write(1, 1, 0, 1);
-    desk.write(1, 2, 0, 2);
-    desk
-}
-
 /// Whether V in use is still sound with these bytes (sector, offset, byte).
 fn sound_with(pokes: &[(usize, usize, u8)]) -> bool {
     let mut desk = in_use();

@@ -32,17 +32,6 @@ fn sectors_stored(desk: &Desk, call: Call) -> Vec<usize> {
     sequence
 }
 
-/// V with both files open for client 1 and a page of each written.
-fn in_use() -> Desk {
-    let mut desk = Desk::v();
-    desk.begin(1);
-    desk.open(1, 1);
-    desk.open(1, 2);
-    desk.write(1, 1, 0, 1);
-    desk.write(1, 2, 0, 2);
-    desk
-}
-
 const BUDGET: u8 = 255;
 
 #[test]

@@ -90,6 +90,17 @@ impl Desk {
     }
 }
 
+/// V with both files open for client 1 and a page of each written.
+pub fn in_use() -> Desk {
+    let mut desk = Desk::v();
+    desk.begin(1);
+    desk.open(1, 1);
+    desk.open(1, 2);
+    desk.write(1, 1, 0, 1);
+    desk.write(1, 2, 0, 2);
+    desk
+}
+
 /// A sector that begins with `start` and is 00 behind it.
 pub fn sector_of(start: &[u8]) -> Vec<u8> {
     let mut sector = start.to_vec();
