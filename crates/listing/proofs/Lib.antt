@@ -2,3 +2,4 @@ pub mod WritesLaws
 pub mod LinesLaws
 pub mod ReadLaws
 pub mod ListingLaws
+pub mod PrintLaws

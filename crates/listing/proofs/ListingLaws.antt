@@ -95,8 +95,8 @@ module _ (v : Volume) (ok : sound v ≡ true) where
         any-number (x .slots),
       )
 
-  pub listing-fits : length (clientLines (view v)) + length (fileLines (view v)) ≤ 664
-  listing-fits = omega (
+  pub lines-fit : length (clientLines (view v)) + length (fileLines (view v)) ≤ 664
+  lines-fit = omega (
     arith,
     few-clients v known,
     few-files v known,
@@ -104,14 +104,22 @@ module _ (v : Volume) (ok : sound v ≡ true) where
     lines-length (fileLineOf (view v)) 37 (length (view v .table .files)) 1 file-37,
   )
 
+  pub listing-fits : length (listing (view v)) ≤ 664
+  unfolding listing
+  listing-fits = omega (arith, length-append (clientLines (view v)) (fileLines (view v)), lines-fit)
+
 -- ------------------------------------------------------------------ what is written
-pub listed-text : (v : Volume) (b c d : Bytes) (n r : ℕ) → 664 ≤ length b → sound v ≡ true
-    → Wrote b 0 (clientLines (view v)) c n → Wrote c n (fileLines (view v)) d r
+-- The lines of the clients and those of the files behind them are the listing.
+pub wrote-listing : (v : Volume) (b c d : Bytes) (n r : ℕ)
+    → Wrote b 0 (clientLines (view v)) c n → Wrote c n (fileLines (view v)) d r → Wrote b 0 (listing (view v)) d r
+unfolding listing
+wrote-listing v b c d n r x y = wrote-more x y
+
+-- So it is what the definition says.
+pub listed-text : (v : Volume) (b d : Bytes) (r : ℕ) → 664 ≤ length b → sound v ≡ true → Wrote b 0 (listing (view v)) d r
     → _≡_ {A = Listed} (record { outcome = ListOutcome.Listed r; out = d }) (listed v b)
-unfolding listed listing
-listed-text v b c d n r room ok x y =
-    let a = view v in
-    let t : Bytes = clientLines a ++ fileLines a in
-    let all : Wrote b 0 t d r = wrote-more x y in
-    let fits : 0 + length t ≤ length b = omega (arith, length-append (clientLines a) (fileLines a), listing-fits v ok) in
-    rw (le-ltb (length b) 664 room, ok, all .bytes, all .next, sets-eq t b 0 fits, zero-add (length t))
+unfolding listed
+listed-text v b d r room ok w =
+    let t = listing (view v) in
+    let fits : 0 + length t ≤ length b = omega (arith, listing-fits v ok) in
+    rw (le-ltb (length b) 664 room, ok, w .bytes, w .next, sets-eq t b 0 fits, zero-add (length t))

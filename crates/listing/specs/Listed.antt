@@ -1,5 +1,6 @@
 -- What a listing answers, and the bytes it is given afterwards.
 use mathlib.Core.List.{_++_}
+use Prim.Native.Nat.{ℕ}
 use lib.Dec.{ltb}
 use lib.ListN.{length, drop}
 use Rattle.sector.specs.Lists.{if_then_else_}
@@ -7,7 +8,7 @@ use Rattle.sector.specs.Contents.{Bytes}
 use Rattle.sector.specs.Sectors.{Volume}
 use Rattle.volume.specs.Volumes.{view}
 use Rattle.volume.specs.Sound.{sound}
-use Rattle.volume.specs.Listing.{listing}
+use Rattle.volume.specs.Listing.{listing, printed}
 use Rattle.listing.specs.declared.ListOutcome.{ListOutcome}
 
 -- The outcome, and the bytes.
@@ -25,3 +26,14 @@ listed v out =
     if ltb (length out) 664 then record { outcome = ListOutcome.NoRoom; out = out }
     else if sound v then withText (listing (view v)) out
     else record { outcome = ListOutcome.NotSound; out = out }
+
+-- How many bytes are to be printed, and the bytes that have them at the front.
+pub record ToPrint : Type 0 where
+  pub count : ℕ
+  pub out : Bytes
+
+-- The text of the listing program stands at the front; without room for the longest one, nothing is written.
+unfoldable pub toPrint : Volume → Bytes → ToPrint
+toPrint v out =
+    if ltb (length out) 664 then record { count = 0; out = out }
+    else record { count = length (printed v); out = printed v ++ drop (length (printed v)) out }

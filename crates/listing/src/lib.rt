@@ -4,9 +4,17 @@ mod text;
 
 use crate::lines::list_clients;
 use crate::lines::list_files;
+use crate::text::put;
 use soundness::is_sound;
 ghost use mathlib.Core.Path.{_≡_};
-ghost use Rattle.listing.specs.Listed.{listed};
+ghost use mathlib.Core.Bool.{true};
+ghost use Prim.Native.Nat.{_≤_};
+ghost use lib.ListN.{length, take};
+ghost use Rattle.volume.specs.Volumes.{view};
+ghost use Rattle.volume.specs.Sound.{sound};
+ghost use Rattle.volume.specs.Listing.{listing};
+ghost use Rattle.listing.specs.Writes.{Wrote};
+ghost use Rattle.listing.specs.Listed.{listed, toPrint};
 
 // What every listing has in common.
 pub struct Listing {}
@@ -14,6 +22,8 @@ pub struct Listing {}
 impl Listing {
     // The bytes that any listing fits in: 4 lines of at most 18, and 16 of at most 37.
     pub const ROOM: usize = 664;
+    // The longest volume that the listing program takes.
+    pub const LONGEST: usize = 65536;
 }
 
 // How a listing ended.
@@ -24,6 +34,15 @@ pub enum ListOutcome {
     NotSound,
     // There is too little room for the longest listing. Nothing is written.
     NoRoom,
+}
+
+// Writes the lines of a sound volume to the front of `out`, and hands back their length.
+fn list_lines(v: &[u8], out: &mut [u8]) -> usize
+    requires { ⌜ (sound (now v) ≡ true) × (664 ≤ length (now out)) ⌝ }
+    ensures { λ r. ⌜ Wrote (now (out .entry)) 0 (listing (view (now (v .entry)))) (now (out .exit)) r ⌝ }
+{
+    let at = list_clients(v, out);
+    list_files(v, out, at)
 }
 
 // Writes the listing of the volume to the front of `out`, and leaves what is behind it as it was. So it is wrong to leave
@@ -37,6 +56,23 @@ pub fn list(v: &[u8], out: &mut [u8]) -> ListOutcome
     if !is_sound(v) {
         return ListOutcome::NotSound;
     }
-    let at = list_clients(v, out);
-    ListOutcome::Listed(list_files(v, out, at))
+    ListOutcome::Listed(list_lines(v, out))
+}
+
+// Writes what the listing program prints to the front of `out`, and hands back its length: `too long`, `not sound`, or the
+// listing. So it is wrong to list a volume of 65,537 bytes, and wrong to print nothing if the volume is not sound.
+pub fn print(v: &[u8], out: &mut [u8]) -> usize
+    ensures { λ r. ⌜ (record { count = r; out = now (out .exit) }) ≡ toPrint (now (v .entry)) (now (out .entry)) ⌝ }
+    ensures { λ r. ⌜ (r ≤ length (now (out .exit))) × (r ≡ length (take r (now (out .exit)))) ⌝ }
+{
+    if out.len() < Listing::ROOM {
+        return 0;
+    }
+    if Listing::LONGEST < v.len() {
+        return put(out, 0, b"too long\n");
+    }
+    if !is_sound(v) {
+        return put(out, 0, b"not sound\n");
+    }
+    list_lines(v, out)
 }

@@ -1,5 +1,4 @@
--- `list` meets its contract: its tests are those of the definition, and the lines of the clients and of the files are written
--- one behind the other.
+-- `list` meets its contract: its tests are those of the definition, and then the listing is written.
 use mathlib.Core.Path.{_≡_, sym, _∙_}
 use mathlib.Core.Bool.{true, false}
 use native.Mathlib.Omega.{arith}
@@ -7,8 +6,7 @@ use borrow.Author.Needs.{needs}
 use borrow.Author.Tests.{not-true, not-false, lt-ltb, le-ltb}
 use Rattle.listing.specs.Listed.{listed}
 use Rattle.volume.specs.Sound.{sound}
-use Rattle.volume.proofs.KnownLaws.{sound-known}
-use Rattle.listing.proofs.ListingLaws.{listing-fits, listed-text}
+use Rattle.listing.proofs.ListingLaws.{listed-text}
 use Rattle.listing.proofs.list.Statement.{statement}
 use Rattle.listing.proofs.list.Tie as tie
 
@@ -26,42 +24,21 @@ returns-2 c =
     let bad : sound (l .before .before .before .args .v .now) ≡ false = sym (c .before .is-sound .ensures) ∙ not-true _ (c .if2 .taken) in
     rw (le-ltb _ _ (l .if1 .left), bad)
 
-list-clients-requires : tie.Need-list-clients-requires
-list-clients-requires c κs =
+list-lines-requires : tie.Need-list-lines-requires
+list-lines-requires c κs =
     let b = c .before in
-    let v = b .before .before .before .before .before .args .v .now in
-    let ok : sound v ≡ true = sym (b .before .is-sound .ensures) ∙ not-false _ (b .if2 .left) in
-    (sound-known v ok, omega (arith, listing-fits v ok))
-
-list-files-requires : tie.Need-list-files-requires
-list-files-requires c κs =
-    let p = c .before .before .before in
-    let b = p .before .before in
-    let v = b .before .before .before .before .before .args .v .now in
-    let ok : sound v ≡ true = sym (b .before .is-sound .ensures) ∙ not-false _ (b .if2 .left) in
-    (sound-known v ok, omega (arith, listing-fits v ok))
+    (sym (b .before .is-sound .ensures) ∙ not-false _ (b .if2 .left), omega arith)
 
 same-length : tie.Need-same-length
 same-length c = search needs
 
 returns-3 : tie.Need-returns-3
 returns-3 c =
-    let f = c .before .before in
-    let p = f .before .before .before .before in
+    let p = c .before .before in
     let b = p .before .before in
     let s = b .before .before .before .before .before in
-    let v = s .args .v .now in
-    let ok : sound v ≡ true = sym (b .before .is-sound .ensures) ∙ not-false _ (b .if2 .left) in
-    listed-text v (s .args .out .now) _ _ _ _ (omega arith) ok (p .list-clients .ensures) (f .list-files .ensures)
+    let ok : sound (s .args .v .now) ≡ true = sym (b .before .is-sound .ensures) ∙ not-false _ (b .if2 .left) in
+    listed-text (s .args .v .now) (s .args .out .now) _ _ (omega arith) ok (p .list-lines .ensures)
 
 pub list-spec : {M : Type 1} → statement M
-list-spec =
-    tie.close
-    (tie.spec
-    returns
-    is-sound-requires
-    returns-2
-    list-clients-requires
-    list-files-requires
-    same-length
-    returns-3)
+list-spec = tie.close (tie.spec returns is-sound-requires returns-2 list-lines-requires same-length returns-3)
