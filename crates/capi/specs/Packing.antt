@@ -1,11 +1,10 @@
 -- A reply as one number: kind + 256 × session + 65,536 × number. Kind is 0 for done, 1 for cut, 2 for refused, 3 for a sector.
 use mathlib.Core.Bool.{Bool, true, false}
-use mathlib.Core.List.{[], _∷_}
-use Prim.Native.Nat.{ℕ, _+_, _*_, _/_, _%_}
-use lib.Dec.{eqb, ltb}
+use Prim.Native.Nat.{ℕ, _+_, _*_}
+use lib.Dec.{ltb}
 use lib.ListN.{getD}
 use Rattle.interface.specs.declared.Session.{Session}
-use Rattle.interface.specs.Answers.{Answer, done, crashed, refused, ReadAnswer, found, readRefused, FormatAnswer, formatDone, formatRefused}
+use Rattle.interface.specs.Answers.{sessionOf, Answer, done, crashed, refused, ReadAnswer, found, readRefused, FormatAnswer, formatDone, formatRefused}
 use Rattle.sector.specs.Lists.{if_then_else_}
 use Rattle.sector.specs.Sectors.{Volume}
 use Rattle.volume.specs.Sound.{sound}
@@ -38,10 +37,6 @@ abbrev pub sessionByte : Session → ℕ
 sessionByte s =
     markWorth (getD (s .active) 0 false) 1 + markWorth (getD (s .active) 1 false) 2
     + markWorth (getD (s .active) 2 false) 4 + markWorth (getD (s .active) 3 false) 8
-
--- A session from the low four bits of a byte.
-abbrev pub sessionOf : ℕ → Session
-sessionOf b = record { active = eqb (b % 2) 1 ∷ eqb (b / 2 % 2) 1 ∷ eqb (b / 4 % 2) 1 ∷ eqb (b / 8 % 2) 1 ∷ [] }
 
 -- ------------------------------------------------------------------ replies
 -- A call's answer, beside the byte of the session that it hands back.

@@ -7,7 +7,7 @@ use crate::pack::pack;
 use crate::pack::pack_format;
 use crate::pack::pack_list;
 use crate::pack::pack_read;
-use crate::pack::session_of;
+use interface::session_of;
 ghost use mathlib.Core.Path.{_≡_};
 ghost use Rattle.volume.specs.Sound.{sound};
 ghost use Rattle.volume.specs.Format.{Formatted};

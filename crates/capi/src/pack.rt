@@ -9,7 +9,7 @@ use listing::ListOutcome;
 ghost use mathlib.Core.Path.{_≡_};
 ghost use Prim.Native.Nat.{_≤_};
 ghost use Rattle.interface.specs.Answers.{refusalNumber, answerOf, readAnswerOf, formatAnswerOf};
-ghost use Rattle.capi.specs.Packing.{packed, packedFormat, markWorth, sessionByte, sessionOf, packedAnswer, packedRead, foreignReply, listedLength};
+ghost use Rattle.capi.specs.Packing.{packed, packedFormat, markWorth, sessionByte, packedAnswer, packedRead, foreignReply, listedLength};
 
 // The number of a refusal.
 fn refusal_number(r: Refusal) -> u64
@@ -46,15 +46,6 @@ fn session_byte(s: Session) -> u64
         + mark_worth(s.active[1], 2)
         + mark_worth(s.active[2], 4)
         + mark_worth(s.active[3], 8)
-}
-
-// A session from the low four bits of a byte.
-pub fn session_of(b: u8) -> Session
-    ensures { λ r. ⌜ r ≡ sessionOf b ⌝ }
-{
-    Session {
-        active: [b % 2 == 1, b / 2 % 2 == 1, b / 4 % 2 == 1, b / 8 % 2 == 1],
-    }
 }
 
 // A byte as a number of a reply.

@@ -1,7 +1,8 @@
 -- The answers of document 01, and which of them each value of the interface is.
 use mathlib.Core.Bool.{false}
 use mathlib.Core.List.{[], _∷_}
-use Prim.Native.Nat.{ℕ}
+use Prim.Native.Nat.{ℕ, _/_, _%_}
+use lib.Dec.{eqb}
 use Rattle.interface.specs.declared.Session.{Session}
 use Rattle.interface.specs.declared.Refusal.{Refusal}
 use Rattle.interface.specs.declared.Refusal.the-variants.{NotSound, BadSession, NoClient, AlreadyActive, NotActive, NoFile, FileInUse, NotHeld, NoPage, BadPageLength, NoFreeSlot, RecordFull, BadVolumeLength, BadShape, TooFewSectors}
@@ -12,6 +13,10 @@ use Rattle.interface.specs.declared.FormatOutcome.{FormatOutcome}
 -- "A new session has no kiln open."
 abbrev pub newSession : Session
 newSession = record { active = false ∷ false ∷ false ∷ false ∷ [] }
+
+-- A session from the low four bits of a byte: bit k − 1 for client k.
+abbrev pub sessionOf : ℕ → Session
+sessionOf b = record { active = eqb (b % 2) 1 ∷ eqb (b / 2 % 2) 1 ∷ eqb (b / 4 % 2) 1 ∷ eqb (b / 8 % 2) 1 ∷ [] }
 
 -- "answers cut with the number of stores made .. Otherwise it answers done with that number"; a refusal has the table's number.
 pub data Answer : Type 0 where

@@ -2,7 +2,7 @@
 // `specs/Answers.antt` lists the number and values that document 01 has for each case.
 ghost use mathlib.Core.Path.{_≡_};
 ghost use Prim.Native.Nat.{_≤_};
-ghost use Rattle.interface.specs.Answers.{newSession, refusalNumber};
+ghost use Rattle.interface.specs.Answers.{newSession, sessionOf, refusalNumber};
 
 // Which clients have a transaction running: client k's mark is `active[k - 1]`. A call takes a
 // session and hands one back; after a crash of the supply the next call is given a new one.
@@ -19,6 +19,15 @@ impl Session {
         ensures { λ r. ⌜ r ≡ newSession ⌝ }
     {
         Session { active: [false; 4] }
+    }
+}
+
+// The session that the low four bits of a byte stand for: bit k - 1 for client k.
+pub fn session_of(b: u8) -> Session
+    ensures { λ r. ⌜ r ≡ sessionOf b ⌝ }
+{
+    Session {
+        active: [b % 2 == 1, b / 2 % 2 == 1, b / 4 % 2 == 1, b / 8 % 2 == 1],
     }
 }
 

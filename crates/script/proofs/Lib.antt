@@ -1,0 +1,4 @@
+pub mod FieldLaws
+pub mod KindLaws
+pub mod LineLaws
+pub mod TextLaws

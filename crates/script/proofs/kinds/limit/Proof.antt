@@ -1,0 +1,18 @@
+-- `limit` meets its contract: by its two tests.
+use native.Mathlib.Omega.{arith}
+use borrow.Author.Needs.{needs}
+use borrow.Author.Tests.{eq-eqb, ne-eqb}
+use Rattle.script.proofs.kinds.limit.Statement.{statement}
+use Rattle.script.proofs.kinds.limit.Tie as tie
+
+returns : tie.Need-returns
+returns c = rw (eq-eqb _ _ (c .if1 .taken))
+
+returns-2 : tie.Need-returns-2
+returns-2 c = rw (ne-eqb _ _ (c .before .if1 .left), eq-eqb _ _ (c .if2 .taken))
+
+returns-3 : tie.Need-returns-3
+returns-3 c = rw (ne-eqb _ _ (c .before .if1 .left), ne-eqb _ _ (c .if2 .left))
+
+pub limit-spec : {M : Type 1} → statement M
+limit-spec = tie.close (tie.spec returns returns-2 returns-3)

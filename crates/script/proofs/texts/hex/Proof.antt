@@ -1,0 +1,33 @@
+-- `hex` meets its contract: with room, the digits stand at the front.
+use mathlib.Core.Path.{refl}
+use native.Mathlib.Omega.{arith}
+use borrow.Author.Needs.{needs}
+use Rattle.script.proofs.TextLaws.{no-hex, in-hex, hex-fits}
+use Rattle.script.proofs.texts.hex.Statement.{statement}
+use Rattle.script.proofs.texts.hex.Tie as tie
+
+returns : tie.Need-returns
+returns c =
+    let s = c .before .before .before in
+    (no-hex (s .args .bytes .now) (s .args .out .now) (c .if1 .taken), (omega arith, refl))
+
+put-hex-requires : tie.Need-put-hex-requires
+put-hex-requires c κs = search needs
+
+mul-result : tie.Need-mul-result
+mul-result c = search needs
+
+same-length : tie.Need-same-length
+same-length c = search needs
+
+returns-2 : tie.Need-returns-2
+returns-2 c =
+    let p = c .before .before in
+    let e = p .before .before in
+    let s = e .before .before .before in (
+      in-hex (s .args .bytes .now) (s .args .out .now) _ (e .if1 .left) (p .put-hex .ensures),
+      hex-fits (s .args .bytes .now) (s .args .out .now) _ (e .if1 .left) (p .put-hex .ensures),
+    )
+
+pub hex-spec : {M : Type 1} → statement M
+hex-spec = tie.close (tie.spec returns put-hex-requires mul-result same-length returns-2)
