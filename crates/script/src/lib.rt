@@ -1,5 +1,5 @@
 // Scripts of calls as text: what a line asks for, its arguments, and the calls that it stands for.
-mod fields;
+pub mod fields;
 pub mod kinds;
 pub mod lines;
 pub mod texts;

@@ -1,0 +1,75 @@
+// What lines print.
+use interface::FormatOutcome;
+use interface::Outcome;
+use interface::ReadOutcome;
+use script::texts::hex;
+
+pub fn put(text: &[u8]) {
+    io::write_all(1, text);
+}
+
+fn wide(n: u8) -> u64 {
+    n as u64
+}
+
+fn wide_sector(n: u16) -> u64 {
+    n as u64
+}
+
+// A word, a number and the end of the line.
+fn put_line(word: &[u8], n: u64) {
+    put(word);
+    io::print_decimal(1, n);
+    put(b"\n");
+}
+
+// A call's answer.
+pub fn put_outcome(o: Outcome) {
+    match o {
+        Outcome::Done(n) => put_line(b"done ", wide(n)),
+        Outcome::Crashed(n) => put_line(b"cut ", wide(n)),
+        Outcome::Refused(r) => put_line(b"refused ", wide(interface::number(r))),
+    }
+}
+
+// A format's answer.
+pub fn put_format(o: FormatOutcome) {
+    match o {
+        FormatOutcome::Done => put(b"done\n"),
+        FormatOutcome::Refused(r) => put_line(b"refused ", wide(interface::number(r))),
+    }
+}
+
+// A sector or a page in hexadecimal, and the end of the line.
+pub fn put_hex(bytes: &[u8]) {
+    let mut text = [0u8; 512];
+    let n = hex(bytes, &mut text);
+    io::write_all(1, &text[..n]);
+    put(b"\n");
+}
+
+// A read's answer, and the part of the volume that it hands back.
+pub fn put_read(o: ReadOutcome, page: &[u8]) {
+    match o {
+        ReadOutcome::Sector(n) => {
+            put(b"sector ");
+            io::print_decimal(1, wide_sector(n));
+            put(b" ");
+            put_hex(page);
+        }
+        ReadOutcome::Refused(r) => put_line(b"refused ", wide(interface::number(r))),
+    }
+}
+
+// What the listing program prints for the volume.
+pub fn put_list(v: &[u8]) {
+    let mut text = [0u8; 664];
+    let n = listing::print(v, &mut text);
+    io::write_all(1, &text[..n]);
+}
+
+pub fn not_understood(number: u64) {
+    put(b"line ");
+    io::print_decimal(1, number);
+    put(b": not understood\n");
+}
