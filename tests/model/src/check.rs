@@ -11,8 +11,8 @@ use crate::call::{Answer, Call};
 use crate::content;
 use crate::engine::{Engine, Reply};
 use crate::posix::{Lender, Placement, Shared};
-use crate::script::{Line, MAX_DATA, MAX_INPUT, MAX_VOLUME};
-use crate::volume::{self, Session, SECTOR_SIZE};
+use crate::script::{Line, MAX_DATA, MAX_VOLUME};
+use crate::volume::{self, Session, MAX_LISTING, SECTOR_SIZE};
 
 /// What the driver counts, as places in the shared tallies.
 pub mod tally {
@@ -41,8 +41,8 @@ const PREFIX_LIMIT: usize = 64 * SECTOR_SIZE;
 pub struct World {
     engines: [Engine; 2],
     volumes: [Lender; 2],
-    /// The second engine gets its data from here.
-    data: Lender,
+    /// The second engine's data, shapes and listings stand here.
+    lent: Lender,
     /// The script's buffer, whose first bytes the volumes are copies of. It
     /// is brought up to date when another length is lent.
     buffer: Vec<u8>,
@@ -72,7 +72,7 @@ impl World {
         World {
             engines: [Engine::Model, Engine::second()],
             volumes: [Lender::new(MAX_VOLUME, Placement::Plain), Lender::new(MAX_VOLUME, placement)],
-            data: Lender::new(MAX_DATA, placement),
+            lent: Lender::new(MAX_DATA.max(MAX_LISTING), placement),
             buffer: vec![0; MAX_VOLUME],
             length: 0,
             session: 0,
@@ -163,24 +163,25 @@ impl World {
 
     fn list(&mut self) -> Check {
         self.shared.count(tally::LISTINGS);
-        let [first, second] = [0, 1].map(|index| self.volumes[index].bytes(self.length));
-        if first.len() > MAX_INPUT || !volume::is_sound(first) {
-            return Ok(());
-        }
-        let mut texts = [[0; 1024]; 2];
-        let lengths = [self.engines[0].list(first, &mut texts[0]), self.engines[1].list(second, &mut texts[1])];
-        expect(lengths[0] == lengths[1], || format!("listings of {lengths:?} bytes"))?;
-        expect(texts[0] == texts[1], || "the listings differ".into())
+        let mut text = [0; MAX_LISTING];
+        let expected = self.engines[0].list(self.volumes[0].bytes(self.length), &mut text);
+        let room = self.lent.array(MAX_LISTING);
+        room.fill(0);
+        let found = self.engines[1].list(self.volumes[1].bytes(self.length), room);
+        expect(found == expected, || format!("listings of {expected} and {found} bytes"))?;
+        expect(*room == text, || "the listings differ".into())
     }
 
     fn format(&mut self, length: usize, clients: u8, shape: &[u8]) -> Result<Answer, String> {
         self.shared.count(tally::FORMATS);
         self.relend(length);
         self.keep_before();
-        let replies = [0, 1].map(|index| {
-            let volume = self.volumes[index].array(length);
-            self.engines[index].format(volume, clients, shape)
-        });
+        let copy = self.lent.array(shape.len());
+        copy.copy_from_slice(shape);
+        let replies = [
+            self.engines[0].format(self.volumes[0].array(length), clients, shape),
+            self.engines[1].format(self.volumes[1].array(length), clients, copy),
+        ];
         expect(replies[0] == replies[1], || differing(replies))?;
         self.same_bytes()?;
         self.session = 0;
@@ -228,7 +229,7 @@ impl World {
         let first = self.engines[0].call(self.volumes[0].array(self.length), given, call);
         let mut lent = *call;
         if let Call::Write { data, .. } = &mut lent {
-            let copy = self.data.array(data.len());
+            let copy = self.lent.array(data.len());
             copy.copy_from_slice(data);
             *data = copy;
         }

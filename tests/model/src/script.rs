@@ -7,7 +7,8 @@ use std::fmt;
 use std::io::{self, Write};
 
 use crate::call::{Answer, Call};
-use crate::volume::{self, Session, MAX_LISTING, SECTOR_SIZE};
+use crate::engine::Engine;
+use crate::volume::{MAX_LISTING, SECTOR_SIZE};
 
 /// The bytes that a script can lend: one sector more than a volume may have.
 pub const MAX_VOLUME: usize = 262_400;
@@ -162,9 +163,9 @@ impl fmt::Display for Call<'_> {
 
 // -------------------------------------------------------------- the running
 
-/// Runs a script and writes what its lines print.
-pub fn run(input: &[u8], out: &mut impl Write) -> io::Result<()> {
-    let mut player = Player::new();
+/// Runs a script on an engine and writes what its lines print.
+pub fn run(engine: Engine, input: &[u8], out: &mut impl Write) -> io::Result<()> {
+    let mut player = Player::new(engine);
     for (index, line) in input.split_inclusive(|&byte| byte == b'\n').enumerate() {
         // A rest without its 0A isn't a line.
         let understood = match line.split_last() {
@@ -183,28 +184,29 @@ pub fn run(input: &[u8], out: &mut impl Write) -> io::Result<()> {
 }
 
 /// What the listing program prints for a volume.
-pub fn listing(volume: &[u8]) -> String {
+pub fn listing(engine: Engine, volume: &[u8]) -> String {
     if volume.len() > MAX_INPUT {
         return "too long\n".into();
     }
     let mut text = [0; MAX_LISTING];
-    match volume::list(volume, &mut text) {
-        Some(length) => String::from_utf8_lossy(&text[..length]).into_owned(),
-        None => "not sound\n".into(),
+    match engine.list(volume, &mut text) {
+        0 => "not sound\n".into(),
+        length => String::from_utf8_lossy(&text[..length]).into_owned(),
     }
 }
 
 /// The volume and session of a running script.
 struct Player {
+    engine: Engine,
     buffer: Vec<u8>,
     /// The volume is the first so many bytes of the buffer.
     length: usize,
-    session: Session,
+    session: u8,
 }
 
 impl Player {
-    fn new() -> Player {
-        Player { buffer: vec![0; MAX_VOLUME], length: 0, session: Session::new() }
+    fn new(engine: Engine) -> Player {
+        Player { engine, buffer: vec![0; MAX_VOLUME], length: 0, session: 0 }
     }
 
     fn volume(&mut self) -> &mut [u8] {
@@ -213,20 +215,20 @@ impl Player {
 
     /// Answers false if the line names a place outside the volume.
     fn play(&mut self, line: &Line, out: &mut impl Write) -> io::Result<bool> {
+        let engine = self.engine;
         match line {
             Line::Format { length, clients, shape } => {
                 self.length = *length;
-                self.session = Session::new();
-                match volume::format(self.volume(), *clients, shape) {
-                    Ok(()) => writeln!(out, "done")?,
-                    Err(number) => writeln!(out, "refused {number}")?,
+                self.session = 0;
+                match engine.format(self.volume(), *clients, shape).answer() {
+                    Some(Answer::Refused(number)) => writeln!(out, "refused {number}")?,
+                    Some(Answer::Done(0)) => writeln!(out, "done")?,
+                    _ => return Err(no_reply()),
                 }
             }
             Line::Call(call) => self.call(call, out)?,
-            Line::Session(marks) => match Session::from_bits(*marks) {
-                Some(session) => self.session = session,
-                None => return Ok(false),
-            },
+            Line::Session(marks @ ..16) => self.session = *marks,
+            Line::Session(_) => return Ok(false),
             Line::Poke { address, byte } => match self.volume().get_mut(*address) {
                 Some(place) => *place = *byte,
                 None => return Ok(false),
@@ -235,23 +237,29 @@ impl Player {
                 Some(sector) => writeln!(out, "{}", hex(sector))?,
                 None => return Ok(false),
             },
-            Line::List => out.write_all(listing(self.volume()).as_bytes())?,
+            Line::List => out.write_all(listing(engine, self.volume()).as_bytes())?,
         }
         Ok(true)
     }
 
     fn call(&mut self, call: &Call, out: &mut impl Write) -> io::Result<()> {
-        let before = self.session;
-        let (after, answer) = call.make(self.volume(), before);
-        self.session = after;
-        match (*call, answer) {
-            (Call::Read { client, file, page }, Answer::Sector(_)) => {
-                let part = volume::page(self.volume(), before, client, file, page);
-                writeln!(out, "{answer} {}", hex(part))
-            }
-            _ => writeln!(out, "{answer}"),
+        let (engine, session) = (self.engine, self.session);
+        let reply = engine.call(self.volume(), session, call);
+        let answer = reply.answer().ok_or_else(no_reply)?;
+        if let Answer::Sector(sector) = answer {
+            let part = self.volume().chunks_exact(SECTOR_SIZE).nth(sector.into()).ok_or_else(no_reply)?;
+            return writeln!(out, "{answer} {}", hex(part));
         }
+        // A read hands back no session.
+        if !matches!(call, Call::Read { .. }) {
+            self.session = reply.session();
+        }
+        writeln!(out, "{answer}")
     }
+}
+
+fn no_reply() -> io::Error {
+    io::Error::other("the engine's reply is none")
 }
 
 fn hex(bytes: &[u8]) -> String {

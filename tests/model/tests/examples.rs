@@ -5,7 +5,6 @@ mod common;
 use common::*;
 use model::book::Book;
 use model::content::decided_pages;
-use model::script::listing;
 use model::volume::Read;
 
 /// The new contents of file 1 page 0 and file 2 page 0.

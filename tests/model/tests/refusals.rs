@@ -3,8 +3,9 @@
 mod common;
 
 use common::*;
+use model::call::{Answer, Call};
 use model::script::data;
-use model::volume::{self, Outcome, Read, Session};
+use model::volume::{Outcome, Read, Session};
 
 /// Makes the call and tests that bytes and session stay as they were.
 fn refused(desk: &mut Desk, call: impl FnOnce(&mut Desk) -> Outcome) -> u8 {
@@ -33,7 +34,8 @@ fn no_1_volume_not_sound() {
     assert_eq!(refused(&mut desk, |desk| desk.commit(9)), 1);
     assert_eq!(desk.read(1, 1, 0), Read::Refused(1));
     assert!(desk.page(1, 1, 0).is_empty());
-    assert_eq!(volume::begin(&mut [], Session::new(), 1, 255).1, Refused(1));
+    let begin = Call::Begin { client: 1, budget: 255 };
+    assert_eq!(make(&mut [], Session::new(), begin).1, Answer::Refused(1));
 }
 
 #[test]
@@ -50,7 +52,7 @@ fn no_2_session_does_not_fit() {
     let mut desk = opened();
     assert_eq!(desk.write(1, 1, 0, 5), Done(2));
     desk.volume[3 * 256 + 2] = 0;
-    assert!(volume::is_sound(&desk.volume));
+    assert!(is_sound(&desk.volume));
     assert_eq!(refused(&mut desk, |desk| desk.open(1, 1)), 2);
 }
 
@@ -155,7 +157,7 @@ fn no_11_goes_before_12() {
 /// Lays out bytes that aren't zero and tests that a refusal leaves them.
 fn layout(length: usize, clients: u8, shape: &[u8]) -> Result<(), u8> {
     let mut volume = vec![0xEE; length];
-    let result = volume::format(&mut volume, clients, shape);
+    let result = format(&mut volume, clients, shape);
     assert!(result.is_ok() || volume.iter().all(|&byte| byte == 0xEE), "a refusal changed something");
     result
 }

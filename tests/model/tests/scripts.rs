@@ -3,17 +3,23 @@
 use std::fs;
 use std::path::Path;
 
+use model::engine::Engine;
 use model::script::{parse, run};
 
+/// What a script prints, the same on both engines.
 fn output_of(script: &[u8]) -> String {
-    let mut out = Vec::new();
-    run(script, &mut out).unwrap();
-    String::from_utf8(out).unwrap()
+    let [first, second] = [Engine::Model, Engine::second()].map(|engine| {
+        let mut out = Vec::new();
+        run(engine, script, &mut out).unwrap();
+        String::from_utf8(out).unwrap()
+    });
+    assert_eq!(first, second);
+    first
 }
 
 #[test]
 fn examples() {
-    let folder = Path::new(env!("CARGO_MANIFEST_DIR")).join("scripts");
+    let folder = Path::new(env!("CARGO_MANIFEST_DIR")).join("../../examples/scripts");
     for number in 1..=11 {
         let script = fs::read(folder.join(format!("e{number}.txt"))).unwrap();
         let expected = fs::read_to_string(folder.join(format!("e{number}.out"))).unwrap();

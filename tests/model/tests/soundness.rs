@@ -3,8 +3,7 @@
 mod common;
 
 use common::*;
-use model::script::listing;
-use model::volume::{is_sound, list};
+use model::volume::list;
 
 /// Whether V in use is still sound with these bytes (sector, offset, byte).
 fn sound_with(pokes: &[(usize, usize, u8)]) -> bool {
@@ -112,7 +111,7 @@ fn entries_differ() {
 
 #[test]
 fn headers() {
-    let wrong: [(usize, usize, u8); 9] = [
+    let wrong: [(usize, usize, u8); 10] = [
         (3, 0, 0),
         // Client 2 is idle, client 3 doesn't exist.
         (3, 2, 2),
@@ -124,6 +123,7 @@ fn headers() {
         (3, 8, 1),
         (3, 8, 2),
         (3, 10, 1),
+        (3, 255, 1),
     ];
     for poke in wrong {
         assert!(!sound_with(&[poke]), "{poke:?}");
@@ -144,4 +144,15 @@ fn listings() {
     let mut exact = vec![0; text.len()];
     assert_eq!(list(&desk.volume, &mut exact), Some(text.len()));
     assert_eq!(list(&desk.volume, &mut exact[1..]), None);
+}
+
+/// The library wants room for any listing.
+#[cfg(feature = "capi")]
+#[test]
+fn the_library_writes_no_listing_into_less_room() {
+    use model::engine::Engine;
+    let (desk, mut room) = (in_use(), [0xEE; 664]);
+    assert_eq!(Engine::Library.list(&desk.volume, &mut room[..663]), 0);
+    assert_eq!(room, [0xEE; 664]);
+    assert!(Engine::Library.list(&desk.volume, &mut room) > 0);
 }

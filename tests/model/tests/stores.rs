@@ -15,7 +15,7 @@ fn sectors_stored(desk: &Desk, call: Call) -> Vec<usize> {
     let mut last = desk.volume.clone();
     for budget in 1.. {
         let mut next = desk.volume.clone();
-        let (session, answer) = call.with_budget(budget).make(&mut next, desk.session);
+        let (session, answer) = make(&mut next, desk.session, call.with_budget(budget));
         let changed: Vec<usize> =
             (0..next.len() / 256).filter(|s| next[256 * s..][..256] != last[256 * s..][..256]).collect();
         assert!(changed.len() <= 1, "{changed:?}");

@@ -2,6 +2,7 @@
 
 use std::io::{self, Read, Write};
 
+use model::engine::Engine;
 use model::script::{self, MAX_INPUT};
 
 fn main() -> io::Result<()> {
@@ -11,7 +12,7 @@ fn main() -> io::Result<()> {
     if input.len() > MAX_INPUT {
         writeln!(out, "too long")?;
     } else {
-        script::run(&input, &mut out)?;
+        script::run(Engine::Model, &input, &mut out)?;
     }
     out.flush()
 }

@@ -1,9 +1,12 @@
-//! A volume and the session that goes from call to call.
+//! A volume and the session that goes from call to call. Every call is made
+//! on both engines, which must agree in the reply and in every byte.
 
 // Each test file uses its own part of this.
 #![allow(dead_code, unused_imports)]
 
-use model::script::data;
+use model::call::{Answer, Call};
+use model::engine::{Engine, Reply};
+use model::script::{self, data};
 use model::volume::{self, Outcome, Read, Session, SECTOR_SIZE};
 
 pub use model::volume::Outcome::{Cut, Done, Refused};
@@ -18,10 +21,47 @@ pub struct Desk {
     pub session: Session,
 }
 
+/// Does the same on both engines, on the volume and on a copy of it.
+fn both(volume: &mut [u8], act: impl Fn(Engine, &mut [u8]) -> Reply) -> Reply {
+    let mut copy = volume.to_vec();
+    let [first, second] = [act(Engine::Model, volume), act(Engine::second(), &mut copy)];
+    assert_eq!(first, second, "the replies differ");
+    assert!(volume == copy, "the volumes differ");
+    first
+}
+
+/// Makes a call; a read hands back the session given.
+pub fn make(volume: &mut [u8], session: Session, call: Call) -> (Session, Answer) {
+    let reply = both(volume, |engine, volume| engine.call(volume, session.bits(), &call));
+    let after = if matches!(call, Call::Read { .. }) { session.bits() } else { reply.session() };
+    (Session::from_bits(after).unwrap(), reply.answer().unwrap())
+}
+
+/// The refusal, if there is one.
+pub fn format(volume: &mut [u8], clients: u8, shape: &[u8]) -> Result<(), u8> {
+    match both(volume, |engine, volume| engine.format(volume, clients, shape)).answer() {
+        Some(Answer::Done(0)) => Ok(()),
+        Some(Answer::Refused(number)) => Err(number),
+        other => panic!("a format answers {other:?}"),
+    }
+}
+
+pub fn is_sound(volume: &[u8]) -> bool {
+    let sound = Engine::Model.is_sound(volume);
+    assert_eq!(Engine::second().is_sound(volume), sound);
+    sound
+}
+
+pub fn listing(volume: &[u8]) -> String {
+    let text = script::listing(Engine::Model, volume);
+    assert_eq!(script::listing(Engine::second(), volume), text);
+    text
+}
+
 impl Desk {
     pub fn new(sectors: usize, clients: u8, shape: &[u8]) -> Desk {
         let mut volume = vec![0xEE; SECTOR_SIZE * sectors];
-        assert_eq!(volume::format(&mut volume, clients, shape), Ok(()));
+        assert_eq!(format(&mut volume, clients, shape), Ok(()));
         Desk { volume, session: Session::new() }
     }
 
@@ -29,14 +69,19 @@ impl Desk {
         Desk::new(11, 2, &V_SHAPE)
     }
 
-    fn after(&mut self, (session, outcome): (Session, Outcome)) -> Outcome {
+    fn call(&mut self, call: Call) -> Outcome {
+        let (session, answer) = make(&mut self.volume, self.session, call);
         self.session = session;
-        outcome
+        match answer {
+            Answer::Done(count) => Done(count),
+            Answer::Cut(count) => Cut(count),
+            Answer::Refused(number) => Refused(number),
+            Answer::Sector(_) => panic!("{call:?} answers a sector"),
+        }
     }
 
     pub fn begin(&mut self, client: u8) -> Outcome {
-        let reply = volume::begin(&mut self.volume, self.session, client, 255);
-        self.after(reply)
+        self.call(Call::Begin { client, budget: 255 })
     }
 
     pub fn open(&mut self, client: u8, file: u8) -> Outcome {
@@ -44,8 +89,7 @@ impl Desk {
     }
 
     pub fn open_within(&mut self, client: u8, file: u8, budget: u8) -> Outcome {
-        let reply = volume::open(&mut self.volume, self.session, client, file, budget);
-        self.after(reply)
+        self.call(Call::Open { client, file, budget })
     }
 
     /// Writes the page that begins with `seed`.
@@ -54,8 +98,7 @@ impl Desk {
     }
 
     pub fn write_data(&mut self, client: u8, file: u8, page: u8, data: &[u8]) -> Outcome {
-        let reply = volume::write(&mut self.volume, self.session, client, file, page, data, 255);
-        self.after(reply)
+        self.call(Call::Write { client, file, page, data, budget: 255 })
     }
 
     pub fn commit(&mut self, client: u8) -> Outcome {
@@ -63,17 +106,22 @@ impl Desk {
     }
 
     pub fn commit_within(&mut self, client: u8, budget: u8) -> Outcome {
-        let reply = volume::commit(&mut self.volume, self.session, client, budget);
-        self.after(reply)
+        self.call(Call::Commit { client, budget })
     }
 
     pub fn abort(&mut self, client: u8) -> Outcome {
-        let reply = volume::abort(&mut self.volume, self.session, client, 255);
-        self.after(reply)
+        self.call(Call::Abort { client, budget: 255 })
     }
 
     pub fn read(&self, client: u8, file: u8, page: u8) -> Read {
-        volume::read(&self.volume, self.session, client, file, page)
+        let mut copy = self.volume.clone();
+        let answer = make(&mut copy, self.session, Call::Read { client, file, page }).1;
+        assert!(copy == self.volume, "a read changed something");
+        match answer {
+            Answer::Sector(sector) => Read::Sector(sector),
+            Answer::Refused(number) => Read::Refused(number),
+            other => panic!("a read answers {other:?}"),
+        }
     }
 
     pub fn page(&self, client: u8, file: u8, page: u8) -> &[u8] {

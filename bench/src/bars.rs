@@ -1,0 +1,60 @@
+//! The bars: no call of the library runs more instructions than the same call
+//! in Rust, and none takes more than 1,024 bytes of stack. Times are reported
+//! and have no bar here: they vary from run to run.
+
+pub const STACK_LIMIT: usize = 1024;
+
+/// Calls that may be above the bar, each with the place and the reason.
+const EXCEPTIONS: &[(&str, &str, &str)] = &[];
+
+#[derive(Default)]
+pub struct Bars {
+    calls: usize,
+    worst: f64,
+    highest: usize,
+    excused: Vec<String>,
+    missed: Vec<String>,
+}
+
+impl Bars {
+    /// Notes the instructions of one call, the library's first.
+    pub fn instructions(&mut self, place: &str, call: &str, [library, rust]: [u64; 2]) {
+        self.calls += 1;
+        self.worst = self.worst.max(ratio(library, rust));
+        if library <= rust {
+            return;
+        }
+        let above = format!("{place}, {call}: {library} instructions, {rust} in Rust");
+        match EXCEPTIONS.iter().find(|&&(at, name, _)| (at, name) == (place, call)) {
+            Some((_, _, reason)) => self.excused.push(format!("{above}: {reason}")),
+            None => self.missed.push(above),
+        }
+    }
+
+    /// Notes the stack of one call of the library.
+    pub fn stack(&mut self, place: &str, call: &str, bytes: usize) {
+        self.highest = self.highest.max(bytes);
+        if bytes > STACK_LIMIT {
+            self.missed.push(format!("{place}, {call}: {bytes} bytes of stack"));
+        }
+    }
+
+    /// Prints the verdict: whether all bars are met.
+    pub fn verdict(&self) -> bool {
+        println!("\n6. BARS\n");
+        println!("highest ratio of instructions {:.2}, of {} measured calls", self.worst, self.calls);
+        println!("highest stack {} bytes, {STACK_LIMIT} are allowed", self.highest);
+        for excused in &self.excused {
+            println!("exception: {excused}");
+        }
+        for missed in &self.missed {
+            println!("not met: {missed}");
+        }
+        println!("{}", if self.missed.is_empty() { "all bars are met" } else { "not all bars are met" });
+        self.missed.is_empty()
+    }
+}
+
+pub fn ratio(library: u64, rust: u64) -> f64 {
+    library as f64 / rust as f64
+}

@@ -1,0 +1,83 @@
+// A chip behind commands. The library works on a copy in memory, and budgets make its stores one at a time: each is
+// written to the chip as a whole before the next one is made, in whatever order the compiled calls write their bytes.
+#include <stdio.h>
+#include <stdlib.h>
+#include <string.h>
+
+#include "volume.h"
+
+enum { DONE = 0, CUT = 1, REFUSED = 2, SECTORS = 11, LENGTH = 256 * SECTORS };
+
+// In a controller this is the chip, and memcpy to a sector of it is the command that writes a sector.
+static uint8_t chip[LENGTH];
+// The copy, and the copy before the call. Both are as the chip is when no call is made.
+static uint8_t work[LENGTH], start[LENGTH];
+static uint8_t session;
+
+static const uint8_t shape[] = {2, 3, 1, 3};
+static const uint8_t page[256] = {1, 2, 3};
+
+static uint64_t begin(uint8_t budget) {
+    return vol_begin(work, LENGTH, session, 1, budget);
+}
+
+static uint64_t open_1(uint8_t budget) {
+    return vol_open(work, LENGTH, session, 1, 1, budget);
+}
+
+static uint64_t open_2(uint8_t budget) {
+    return vol_open(work, LENGTH, session, 1, 2, budget);
+}
+
+static uint64_t write_1(uint8_t budget) {
+    return vol_write(work, LENGTH, session, 1, 1, 0, page, sizeof page, budget);
+}
+
+static uint64_t write_2(uint8_t budget) {
+    return vol_write(work, LENGTH, session, 1, 2, 0, page, sizeof page, budget);
+}
+
+static uint64_t commit(uint8_t budget) {
+    return vol_commit(work, LENGTH, session, 1, budget);
+}
+
+// Writes the sector in which the chip differs from the copy. There is one at most.
+static void write_to_chip(void) {
+    int written = 0;
+    for (size_t s = 0; s < SECTORS; s++) {
+        if (memcmp(chip + 256 * s, work + 256 * s, 256) == 0) continue;
+        memcpy(chip + 256 * s, work + 256 * s, 256);
+        printf(" %zu", s);
+        written++;
+    }
+    if (written > 1) exit(1);
+}
+
+// With budget n the copy is as after the first n stores of the call, so the chip is one store behind it. The supply may
+// fail at any moment: the chip then has the first stores of the call, and the next start gives session 0.
+static void store_by_store(const char *name, uint64_t (*call)(uint8_t budget)) {
+    uint64_t reply;
+    uint8_t budget = 0;
+    printf("%s:", name);
+    memcpy(start, work, LENGTH);
+    do {
+        memcpy(work, start, LENGTH);
+        reply = call(++budget);
+        write_to_chip();
+    } while (VOL_KIND(reply) == CUT);
+    session = VOL_SESSION(reply);
+    printf(", %s %u\n", VOL_KIND(reply) == DONE ? "done" : "refused", VOL_NUMBER(reply));
+}
+
+int main(void) {
+    vol_format(work, LENGTH, 2, shape, sizeof shape);
+    memcpy(chip, work, LENGTH);
+    store_by_store("begin", begin);
+    store_by_store("open 1", open_1);
+    store_by_store("open 2", open_2);
+    store_by_store("write 1", write_1);
+    store_by_store("write 2", write_2);
+    store_by_store("commit", commit);
+    store_by_store("commit", commit);
+    return memcmp(chip, work, LENGTH) != 0;
+}

@@ -1,0 +1,173 @@
+//! The programs `run_script` and `list_volume` beside the model: on random
+//! scripts, right and wrong, and on volumes, whole and damaged.
+//!
+//!     programs DIRECTORY COUNT SEED
+
+use std::io::{self, Write};
+use std::path::Path;
+use std::process::{Command, ExitCode, Stdio};
+use std::{env, thread};
+
+use model::engine::Engine;
+use model::random::Random;
+use model::script::{listing, run, MAX_INPUT};
+use model::volume;
+
+fn main() -> ExitCode {
+    let words: Vec<String> = env::args().collect();
+    let [_, directory, count, seed] = &words[..] else {
+        println!("usage: programs DIRECTORY COUNT SEED");
+        return ExitCode::FAILURE;
+    };
+    let mut random = Random::new(seed.parse().expect("SEED is a number"));
+    let count = count.parse().expect("COUNT is a number");
+    let agree = agrees(directory, "run_script", scripts(&mut random, count), played)
+        && agrees(directory, "list_volume", volumes(&mut random, count), listed);
+    if !agree {
+        return ExitCode::FAILURE;
+    }
+    println!("programs: {count} scripts and {count} volumes, no difference from the model");
+    ExitCode::SUCCESS
+}
+
+/// Whether the program prints what the model does, on each of the inputs.
+fn agrees(directory: &str, name: &str, inputs: impl Iterator<Item = Vec<u8>>, model: fn(&[u8]) -> Vec<u8>) -> bool {
+    let program = Path::new(directory).join(name);
+    let mut inputs = inputs;
+    match inputs.find(|input| output(&program, input) != model(input)) {
+        None => true,
+        Some(input) => {
+            println!("{name} differs from the model on this input:");
+            io::stdout().write_all(&input).expect("the output takes all");
+            false
+        }
+    }
+}
+
+/// What the program prints for the input.
+fn output(program: &Path, input: &[u8]) -> Vec<u8> {
+    let mut child =
+        Command::new(program).stdin(Stdio::piped()).stdout(Stdio::piped()).spawn().expect("the program runs");
+    let mut pipe = child.stdin.take().expect("its input is a pipe");
+    thread::scope(|scope| {
+        // The program needn't read all of an input that is too long.
+        scope.spawn(move || pipe.write_all(input).unwrap_or(()));
+        child.wait_with_output().expect("the program ends").stdout
+    })
+}
+
+/// What the model's `run_script` prints for the script.
+fn played(script: &[u8]) -> Vec<u8> {
+    if script.len() > MAX_INPUT {
+        return b"too long\n".into();
+    }
+    let mut out = Vec::new();
+    run(Engine::Model, script, &mut out).expect("a vector takes all");
+    out
+}
+
+/// What the model's listing has for the volume.
+fn listed(volume: &[u8]) -> Vec<u8> {
+    listing(Engine::Model, volume).into_bytes()
+}
+
+// -------------------------------------------------------------- the scripts
+
+/// Scripts of some thirty lines, and each ending of the longest that there is.
+fn scripts(random: &mut Random, count: usize) -> impl Iterator<Item = Vec<u8>> + '_ {
+    let longest = [MAX_INPUT - 1, MAX_INPUT, MAX_INPUT + 1].map(|length| {
+        let mut script = vec![b'#'; length];
+        script[length - 1] = b'\n';
+        script
+    });
+    longest.into_iter().chain((0..count).map(|_| script(random)))
+}
+
+fn script(random: &mut Random) -> Vec<u8> {
+    let mut text = String::from("format 2816 2 2 3 1 3\n");
+    for _ in 0..random.below(40) {
+        text += &line(random);
+        text.push('\n');
+    }
+    let mut text = text.into_bytes();
+    if random.chance(30) {
+        damage(random, &mut text);
+    }
+    text
+}
+
+/// A line, most often with small numbers in the right places.
+fn line(random: &mut Random) -> String {
+    let words = [
+        "begin", "open", "write", "read", "commit", "abort", "session", "poke", "dump", "list", "format", "# remark",
+        "",
+    ];
+    let word = random.pick(&words).unwrap_or("");
+    let mut line = String::from(word);
+    for place in 1..=arguments(random, word) {
+        let number = match (word, place) {
+            ("write", 5) if random.chance(95) => 256,
+            ("format", 1) => [0, 300, 2560, 2816, 65_536, 65_792, 262_144, 262_400, 262_401][random.below(9)],
+            ("poke", 1) => random.below(2900),
+            ("dump", 1) => random.below(12),
+            ("session", 1) => random.below(17),
+            _ if random.chance(97) => random.below(4),
+            _ => [255, 256, 512, 513, 999_999, 1_000_000, usize::MAX][random.below(7)],
+        };
+        line += &format!(" {number}");
+    }
+    line
+}
+
+/// How many numbers follow the word: one too few or too many now and then.
+fn arguments(random: &mut Random, word: &str) -> usize {
+    let right = match word {
+        "begin" | "commit" | "abort" | "session" | "dump" => 1,
+        "open" | "poke" => 2,
+        "read" => 3,
+        "write" => 5,
+        "format" => 2 + 2 * random.below(4),
+        _ => 0,
+    };
+    let takes_budget = matches!(word, "begin" | "commit" | "abort" | "open" | "write");
+    match random.below(100) {
+        0 => right + 2,
+        1 if right > 0 => right - 1,
+        2..30 if takes_budget => right + 1,
+        _ => right,
+    }
+}
+
+/// Another byte somewhere, one left out, or one put in.
+fn damage(random: &mut Random, text: &mut Vec<u8>) {
+    let place = random.below(text.len());
+    let byte = random.pick(b" \n#0129a\r\0\xFF").unwrap_or(0);
+    match random.below(3) {
+        0 => text[place] = byte,
+        1 => text.insert(place, byte),
+        _ => drop(text.remove(place)),
+    }
+}
+
+// -------------------------------------------------------------- the volumes
+
+/// Formatted volumes, half of them damaged in a control sector, and every
+/// length around the longest that is listed.
+fn volumes(random: &mut Random, count: usize) -> impl Iterator<Item = Vec<u8>> + '_ {
+    let around = [0, 1, 255, 256, MAX_INPUT - 256, MAX_INPUT, MAX_INPUT + 1, MAX_INPUT + 256].map(formatted);
+    around.into_iter().chain((0..count).map(|_| {
+        let mut volume = formatted(256 * (6 + random.below(300)));
+        if random.chance(50) {
+            let place = random.below(volume.len().min(1024));
+            volume[place] = random.byte();
+        }
+        volume
+    }))
+}
+
+/// A new volume of this length, or zeros if there is none.
+fn formatted(length: usize) -> Vec<u8> {
+    let mut volume = vec![0; length];
+    let _ = volume::format(&mut volume, 2, &[1, 1, 1, 1]);
+    volume
+}
