@@ -5,7 +5,6 @@ use crate::Verdict;
 use crate::WriteVerdict;
 use crate::call::check_read;
 use byteset::add;
-use byteset::has;
 use interface::Refusal;
 use interface::Session;
 use sector::Sector;
@@ -25,7 +24,7 @@ ghost use Rattle.volume.specs.Known.{Known, HasEntry, noEntry};
 ghost use Rattle.byteset.specs.Set.{hasByte};
 ghost use Rattle.rules.specs.Plans.{write, entryFor, freeSlots, slotFor};
 ghost use Rattle.rules.specs.Refusals.{tests};
-ghost use Rattle.checks.specs.Slots.{slotOf, entrySlot, firstOf};
+ghost use Rattle.checks.specs.Slots.{slotOf, entrySlot, firstOf, LowOnes};
 ghost use Rattle.checks.specs.Writes.{writeFound, answerBy, writeAnswer, slotTests, newTests};
 
 // Whether the entry with index i is for page p of file f.
@@ -91,17 +90,30 @@ fn take_given(v: &[u8], k: u8, f: u8, taken: &mut [u64; 4])
     }
 }
 
-// The lowest slot below `slots` that is not taken.
+// How many bits of the word are set below its lowest clear bit: 64 where none is clear.
+fn low_ones(w: u64) -> u8
+    ensures { λ r. ⌜ LowOnes 64 w r ⌝ }
+{
+    u64::trailing_zeros(!w) as u8
+}
+
+// The lowest slot below `slots` that is not taken: the lowest clear bit of the first word that has one.
 fn lowest_free(taken: &[u64; 4], slots: u8) -> Found
     requires { ⌜ length (now taken) ≡ 4 ⌝ }
     ensures { λ r. ⌜ slotOf r ≡ firstOf (filter (λ y. not (hasByte (now (taken .entry)) y)) (from 0 slots)) ⌝ }
 {
-    let mut r: u8 = 0;
-    while r < slots {
-        if !has(taken, r) {
-            return Found::Slot(r);
+    let mut i: u8 = 0;
+    while i < 4 {
+        let at = sector::size(i);
+        let n = low_ones(taken[at]);
+        if n < 64 {
+            let r = 64 * i + n;
+            if r < slots {
+                return Found::Slot(r);
+            }
+            return Found::Nothing;
         }
-        r += 1;
+        i += 1;
     }
     Found::Nothing
 }

@@ -1,52 +1,97 @@
--- `lowest_free` meets its contract: what is left of the slots decides.
-use mathlib.Core.Path.{_≡_, sym}
-use mathlib.Core.Bool.{not}
-use Prim.Native.Nat.{_-_, _≤_}
+-- `lowest_free` meets its contract. The invariant: every slot below the words that are left is taken. So the search may begin at
+-- the lowest clear bit of the next word that has one: this slot is the result, or it is past the last slot.
+use mathlib.Core.Path.{_≡_}
+use mathlib.Core.Bool.{true}
+use Prim.Native.Nat.{ℕ, _+_, _*_, _-_, _≤_, _<_}
+use native.Mathlib.Nat.{not-suc-le-zero}
 use native.Mathlib.Omega.{arith}
 use borrow.Author.Needs.{needs}
-use Rattle.sector.specs.Lists.{filter, from}
 use Rattle.byteset.specs.Set.{hasByte}
-use Rattle.checks.specs.Slots.{firstOf}
-use Rattle.checks.proofs.SlotLaws.{lowest-more, lowest-hit, lowest-done}
+use Rattle.checks.proofs.SlotLaws.{free-hit, free-none, word-taken, word-free}
 use Rattle.checks.proofs.write.lowest_free.Statement.{statement}
 use Rattle.checks.proofs.write.lowest_free.Tie as tie
 
 abbrev Inv-loop : tie.InvT-loop
-Inv-loop taken slots r₀ r = (r ≤ slots) × (firstOf (filter (λ y. not (hasByte taken y)) (from 0 slots)) ≡ firstOf (filter (λ y. not (hasByte taken y)) (from r (slots - r))))
+Inv-loop taken slots i₀ i = (i ≤ 4) × ((y : ℕ) → y < 64 * i → hasByte taken y ≡ true)
 
 abbrev μ-loop : tie.MeasureT-loop
-μ-loop taken slots r₀ r = slots - r
+μ-loop taken slots i₀ i = 4 - i
 
 loop-holds : tie.Need-loop-holds Inv-loop μ-loop
-loop-holds c = let m : c .args .slots - 0 ≡ c .args .slots = omega arith in (omega arith, rw m)
+loop-holds c = (omega arith, λ y (h : y < 0). absurd (not-suc-le-zero h))
 
-has-requires : tie.Need-has-requires Inv-loop μ-loop
-has-requires c κs = search needs
+size-requires : tie.Need-size-requires Inv-loop μ-loop
+size-requires c κs = search needs
 
-returns : tie.Need-returns Inv-loop μ-loop
-returns c =
-    let at = c .before .before .before in
-    let s = at .before in
-    sym (lowest-hit (λ y. not (hasByte (s .args .taken .now) y)) _ (s .args .slots) (at .loop .r) (at .loop .inv .1) (c .before .before .loop-test .taken) (rw (c .before .has .ensures) at (c .if1 .taken)))
+mul-low-ones : tie.Need-mul-low-ones Inv-loop μ-loop
+mul-low-ones c = search needs
+
+element-copy-out-low-ones : tie.Need-element-copy-out-low-ones Inv-loop μ-loop
+element-copy-out-low-ones c = search needs
+
+low-ones-requires : tie.Need-low-ones-requires Inv-loop μ-loop
+low-ones-requires c κs = search needs
+
+mul-r : tie.Need-mul-r Inv-loop μ-loop
+mul-r c = search needs
 
 add-r : tie.Need-add-r Inv-loop μ-loop
 add-r c = search needs
+
+returns : tie.Need-returns Inv-loop μ-loop
+returns c =
+    let o = c .before .before in
+    let at = o .before .before .before .before in
+    let a = at .before .args in
+    let ones = rw (o .before .before .size .ensures .0) at (o .low-ones .ensures) in
+    free-hit (a .taken .now) (a .slots) _ (word-taken (a .taken .now) (at .loop .i) (o .low-ones .result) (at .loop .inv .1) ones) (c .if2 .taken) (word-free (a .taken .now) (at .loop .i) (o .low-ones .result) (at .loop .inv .1) ones (c .before .if1 .taken))
+
+returns-2 : tie.Need-returns-2 Inv-loop μ-loop
+returns-2 c =
+    let o = c .before .before in
+    let at = o .before .before .before .before in
+    let a = at .before .args in
+    let ones = rw (o .before .before .size .ensures .0) at (o .low-ones .ensures) in
+    free-none (a .taken .now) (a .slots) _ (word-taken (a .taken .now) (at .loop .i) (o .low-ones .result) (at .loop .inv .1) ones) (c .if2 .left)
+
+add-i : tie.Need-add-i Inv-loop μ-loop
+add-i c = search needs
 
 loop-less : tie.Need-loop-less Inv-loop μ-loop
 loop-less c = search needs
 
 loop-again : tie.Need-loop-again Inv-loop μ-loop
 loop-again c =
-    let l = c .before .before in
-    let at = l .before in
-    let s = at .before in
-    (omega (arith, l .loop-test .taken), lowest-more (λ y. not (hasByte (s .args .taken .now) y)) _ (s .args .slots) (at .loop .r) (at .loop .inv .1) (l .loop-test .taken) (rw (c .before .has .ensures) at (c .if1 .left)))
+    let o = c .before in
+    let at = o .before .before .before .before in
+    let a = at .before .args in
+    let n = o .low-ones .result in
+    let ones = rw (o .before .before .size .ensures .0) at (o .low-ones .ensures) in
+    let all : n ≡ 64 = omega (arith, ones .0, c .if1 .left) in
+    (omega arith, λ y (h : y < 64 * (at .loop .i + 1)). word-taken (a .taken .now) (at .loop .i) n (at .loop .inv .1) ones y (omega (arith, all, h)))
 
-returns-2 : tie.Need-returns-2 Inv-loop μ-loop
-returns-2 c =
+returns-3 : tie.Need-returns-3 Inv-loop μ-loop
+returns-3 c =
     let at = c .before in
-    let s = at .before in
-    sym (lowest-done (λ y. not (hasByte (s .args .taken .now) y)) _ (s .args .slots) (at .loop .r) (at .loop .inv .1) (c .loop-test .left))
+    let a = at .before .args in
+    free-none (a .taken .now) (a .slots) (64 * at .loop .i) (at .loop .inv .1) (omega arith)
 
 pub lowest-free-spec : {M : Type 1} → statement M
-lowest-free-spec = tie.close (tie.spec Inv-loop μ-loop loop-holds has-requires returns add-r loop-less loop-again returns-2)
+lowest-free-spec =
+    tie.close
+    (tie.spec
+    Inv-loop
+    μ-loop
+    loop-holds
+    size-requires
+    mul-low-ones
+    element-copy-out-low-ones
+    low-ones-requires
+    mul-r
+    add-r
+    returns
+    returns-2
+    add-i
+    loop-less
+    loop-again
+    returns-3)
