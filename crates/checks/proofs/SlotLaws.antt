@@ -1,5 +1,7 @@
 -- Searches for a slot: of an entry, and of the lowest one that is not taken. A loop keeps that what is left to search decides; a
 -- set is filled with what is left to take.
+-- The lowest slot that is not taken is the lowest clear bit of the first word that has one: the ones below it are the zeros at
+-- the end of the word's complement, which is shown bit by bit.
 use mathlib.Core.Path.{_≡_, refl, sym, ap, _∙_}
 use mathlib.Core.Bool.{Bool, true, false, not, _&&_, _||_, or-false}
 use mathlib.Core.List.{List, _∷_}

@@ -1,4 +1,4 @@
--- Bytes put where there were zeros: how a working sector is built, and how an array is laid out from its front.
+-- Bytes put where there were zeros: how a control sector is written, and how an array is laid out from its front.
 use mathlib.Core.Path.{_≡_}
 use mathlib.Core.List.{_++_}
 use Prim.Native.Nat.{ℕ, _+_}

@@ -1,4 +1,5 @@
--- `new_table` meets its contract: the six bytes at the front and the entries behind them make the encoding of the table.
+-- `new_table` meets its contract: the six bytes at the front and the entries behind them make the encoding of the table,
+-- if there were zeros.
 use mathlib.Core.Path.{_≡_}
 use native.Mathlib.Omega.{arith}
 use borrow.Author.Needs.{needs}
