@@ -7,7 +7,6 @@ use crate::print::put_read;
 use interface::Reply;
 use interface::Session;
 use script::Kind;
-use script::lines::byte_argument;
 ghost use Rattle.io.specs.Counts.{Counts};
 
 // The volume is the first `length` bytes of the buffer.
@@ -17,7 +16,7 @@ pub struct State {
     pub is_understood: bool,
 }
 
-// How a line that needs no other length ended.
+// What a line other than format leaves: the session, and whether it was understood.
 struct Turn {
     session: Session,
     is_understood: bool,
@@ -34,49 +33,27 @@ fn told(r: Reply) -> Turn {
     }
 }
 
-// `read K F P`: both calls of read.
-fn read(v: &[u8], s: Session, line: &[u8]) {
-    let k = byte_argument(line, 1);
-    let f = byte_argument(line, 2);
-    let p = byte_argument(line, 3);
-    put_read(calls::read(v, s, k, f, p), calls::page(v, s, k, f, p));
-}
-
-// Argument n as an address.
-fn address(line: &[u8], n: usize) -> usize {
-    script::fields::argument(line, n) as usize
-}
-
-// `poke ADDRESS BYTE`, if there is such an address.
-fn poke(v: &mut [u8], line: &[u8]) -> bool {
-    let at = address(line, 1);
-    if v.len() <= at {
-        return false;
-    }
-    v[at] = byte_argument(line, 2);
-    true
-}
-
-// `dump S`, if there is such a sector.
+// `dump S`: whether there is such a sector.
 fn dump(v: &[u8], line: &[u8]) -> bool {
-    let s = address(line, 1);
-    if v.len() / 256 <= s {
+    let part = script::looks::dump(v, line);
+    if part.len() == 0 {
         return false;
     }
-    let start = 256 * s;
-    let end = start + 256;
-    put_hex(&v[start..end]);
+    put_hex(part);
     true
 }
 
-// A line that leaves the session as it is.
+// A line that leaves the session as it is: whether it names a place in the volume.
 fn look(v: &mut [u8], s: Session, kind: Kind, line: &[u8]) -> bool {
     match kind {
         Kind::Read => {
-            read(v, s, line);
+            put_read(
+                script::looks::read(v, s, line),
+                script::looks::page(v, s, line),
+            );
             true
         }
-        Kind::Poke => poke(v, line),
+        Kind::Poke => script::looks::poke(v, line),
         Kind::Dump => dump(v, line),
         Kind::List => {
             put_list(v);
@@ -86,8 +63,8 @@ fn look(v: &mut [u8], s: Session, kind: Kind, line: &[u8]) -> bool {
     }
 }
 
-// A line on the volume.
-fn play(v: &mut [u8], s: Session, kind: Kind, line: &[u8]) -> Turn {
+// Runs a line on the volume.
+fn run_line(v: &mut [u8], s: Session, kind: Kind, line: &[u8]) -> Turn {
     match kind {
         Kind::Begin => told(script::lines::begin(v, s, line)),
         Kind::Open => told(script::lines::open(v, s, line)),
@@ -95,7 +72,7 @@ fn play(v: &mut [u8], s: Session, kind: Kind, line: &[u8]) -> Turn {
         Kind::Commit => told(script::lines::commit(v, s, line)),
         Kind::Abort => told(script::lines::abort(v, s, line)),
         Kind::Session => Turn {
-            session: interface::session_of(byte_argument(line, 1)),
+            session: script::looks::session(line),
             is_understood: true,
         },
         _ => Turn {
@@ -105,16 +82,8 @@ fn play(v: &mut [u8], s: Session, kind: Kind, line: &[u8]) -> Turn {
     }
 }
 
-// Whether the line is passed over: it is empty or begins with `#`.
-fn is_remark(line: &[u8]) -> bool {
-    if line.len() == 0 {
-        return true;
-    }
-    line[0] == b'#'
-}
-
 // n, or the length of the buffer if that is less.
-fn least(n: usize, buffer: &[u8]) -> usize
+fn at_most(n: usize, buffer: &[u8]) -> usize
     ensures { λ r. ⌜ Counts r (now (buffer .entry)) ⌝ }
 {
     if n < buffer.len() {
@@ -125,7 +94,7 @@ fn least(n: usize, buffer: &[u8]) -> usize
 
 // `format LENGTH T P R P R ..`
 fn format(buffer: &mut [u8], line: &[u8]) -> State {
-    let n = least(address(line, 1), buffer);
+    let n = at_most(script::fields::argument(line, 1) as usize, buffer);
     put_format(script::lines::format(&mut buffer[..n], line));
     State {
         length: n,
@@ -134,18 +103,18 @@ fn format(buffer: &mut [u8], line: &[u8]) -> State {
     }
 }
 
-// Plays one line.
+// Runs one line.
 pub fn step(buffer: &mut [u8], state: State, line: &[u8]) -> State {
-    if is_remark(line) {
+    if script::looks::is_remark(line) {
         return state;
     }
     let kind = script::kinds::kind(line);
     if let Kind::Format = kind {
         return format(buffer, line);
     }
-    let n = least(state.length, buffer);
+    let n = at_most(state.length, buffer);
     let s = state.session;
-    let turn = play(&mut buffer[..n], s, kind, line);
+    let turn = run_line(&mut buffer[..n], s, kind, line);
     let next = turn.session;
     State {
         length: n,

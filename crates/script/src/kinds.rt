@@ -56,83 +56,35 @@ fn word_kind(line: &[u8]) -> Kind
     other_kind(line)
 }
 
+// A form.
+fn takes(least: usize, most: usize, first: u32, fifth: u32) -> Form
+    ensures { λ r. ⌜ r ≡ record { least = least; most = most; first = first; fifth = fifth } ⌝ }
+{
+    Form {
+        least: least,
+        most: most,
+        first: first,
+        fifth: fifth,
+    }
+}
+
 // The form of a line's arguments.
 fn form(k: Kind) -> Form
     ensures { λ r. ⌜ r ≡ formOf k ⌝ }
 {
     match k {
-        Kind::Format => Form {
-            least: 2,
-            most: 66,
-            first: 262400,
-            fifth: 255,
-        },
-        Kind::Begin => Form {
-            least: 1,
-            most: 2,
-            first: 255,
-            fifth: 255,
-        },
-        Kind::Open => Form {
-            least: 2,
-            most: 3,
-            first: 255,
-            fifth: 255,
-        },
-        Kind::Write => Form {
-            least: 5,
-            most: 6,
-            first: 255,
-            fifth: 512,
-        },
-        Kind::Commit => Form {
-            least: 1,
-            most: 2,
-            first: 255,
-            fifth: 255,
-        },
-        Kind::Abort => Form {
-            least: 1,
-            most: 2,
-            first: 255,
-            fifth: 255,
-        },
-        Kind::Read => Form {
-            least: 3,
-            most: 3,
-            first: 255,
-            fifth: 255,
-        },
-        Kind::Session => Form {
-            least: 1,
-            most: 1,
-            first: 15,
-            fifth: 255,
-        },
-        Kind::Poke => Form {
-            least: 2,
-            most: 2,
-            first: 262399,
-            fifth: 255,
-        },
-        Kind::Dump => Form {
-            least: 1,
-            most: 1,
-            first: 1024,
-            fifth: 255,
-        },
-        Kind::List => Form {
-            least: 0,
-            most: 0,
-            first: 255,
-            fifth: 255,
-        },
-        Kind::Unknown => Form {
-            least: 1,
-            most: 0,
-            first: 255,
-            fifth: 255,
-        },
+        Kind::Format => takes(2, 66, 262400, 255),
+        Kind::Begin => takes(1, 2, 255, 255),
+        Kind::Open => takes(2, 3, 255, 255),
+        Kind::Write => takes(5, 6, 255, 512),
+        Kind::Commit => takes(1, 2, 255, 255),
+        Kind::Abort => takes(1, 2, 255, 255),
+        Kind::Read => takes(3, 3, 255, 255),
+        Kind::Session => takes(1, 1, 15, 255),
+        Kind::Poke => takes(2, 2, 262399, 255),
+        Kind::Dump => takes(1, 1, 1024, 255),
+        Kind::List => takes(0, 0, 255, 255),
+        Kind::Unknown => takes(1, 0, 255, 255),
     }
 }
 

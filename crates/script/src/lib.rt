@@ -2,6 +2,7 @@
 pub mod fields;
 pub mod kinds;
 pub mod lines;
+pub mod looks;
 pub mod texts;
 
 // What a line asks for.

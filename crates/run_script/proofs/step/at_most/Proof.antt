@@ -1,8 +1,8 @@
--- `least` meets its contract: in both cases no more than there is.
+-- `at_most` meets its contract: in both cases no more than there is.
 use native.Mathlib.Omega.{arith}
 use lib.ListN.{length, length-take}
-use Rattle.run_script.proofs.step.least.Statement.{statement}
-use Rattle.run_script.proofs.step.least.Tie as tie
+use Rattle.run_script.proofs.step.at_most.Statement.{statement}
+use Rattle.run_script.proofs.step.at_most.Tie as tie
 
 returns : tie.Need-returns
 returns c =
@@ -14,5 +14,5 @@ returns-2 c =
     let s = c .before in
     (omega arith, omega (arith, length-take (length (s .args .buffer .now)) (s .args .buffer .now)))
 
-pub least-spec : {M : Type 1} → statement M
-least-spec = tie.close (tie.spec returns returns-2)
+pub at-most-spec : {M : Type 1} → statement M
+at-most-spec = tie.close (tie.spec returns returns-2)
