@@ -61,8 +61,8 @@ module _ (x : File) (d : Bytes) (len : length d ≡ 256) (few : x .pages ≤ 120
   body-to e =
       let head : headerHeadTest d ≡ true = all-at _ 0 e in
       and-both (isHeaderEncoding x d) _
-      (rw (encoding-is, drop-drop (x .pages) 8 d) (all-of (all-at _ 0 head also all-at _ 1 head also all-at _ 2 e also none)))
-      (all-at _ 1 e)
+      (rw (encoding-is, drop-drop (x .pages) 8 d) (all-of (all-at _ 0 head also all-at _ 1 head also all-at _ 1 e also none)))
+      (all-at _ 2 e)
 
   body-from : bodySound x d ≡ true → bodyTest x d ≡ true
   unfolding bodyTest headerHeadTest bodySound
@@ -70,7 +70,7 @@ module _ (x : File) (d : Bytes) (len : length d ≡ 256) (few : x .pages ≤ 120
       let bytes : encodedBy x d ≡ true = sym encoding-is ∙ and-left (isHeaderEncoding x d) _ e in
       let head : headerHeadTest d ≡ true = all-of (all-at _ 0 bytes also all-at _ 1 bytes also none) in
       let rest : allZero (drop (8 + x .pages) d) ≡ true = rw (drop-drop (x .pages) 8 d) at (all-at _ 2 bytes) in
-      all-of (head also and-right (isHeaderEncoding x d) _ e also rest also none)
+      all-of (head also rest also and-right (isHeaderEncoding x d) _ e also none)
 
   body-is : bodyTest x d ≡ bodySound x d
   body-is = iff _ _ body-to body-from
@@ -80,12 +80,12 @@ module _ (x : File) (d : Bytes) (len : length d ≡ 256) (few : x .pages ≤ 120
   unfolding bodyTest
   head-no e = sym body-is ∙ all-no _ 0 e
 
-  pub map-no : mapFits (x .slots) (mapBytes (x .pages) d) ≡ false → bodySound x d ≡ false
+  pub zeros-no : allZero (drop (8 + x .pages) d) ≡ false → bodySound x d ≡ false
   unfolding bodyTest
-  map-no e = sym body-is ∙ all-no _ 1 e
+  zeros-no e = sym body-is ∙ all-no _ 1 e
 
-  pub body-last : headerHeadTest d ≡ true → mapFits (x .slots) (mapBytes (x .pages) d) ≡ true
-      → allZero (drop (8 + x .pages) d) ≡ bodySound x d
+  pub body-last : headerHeadTest d ≡ true → allZero (drop (8 + x .pages) d) ≡ true
+      → mapFits (x .slots) (mapBytes (x .pages) d) ≡ bodySound x d
   unfolding bodyTest
   body-last a b = sym (sym body-is ∙ all-last (a then b then final))
 

@@ -142,11 +142,11 @@ module _ (t : Table) (d : Bytes) (len : length d ≡ 256) where
   unfolding recordTest recordHeadTest emptyIfIdle entriesTest entriesDiffer entriesIn recordSound decodeRecord
   record-to e =
       let head : recordHeadTest d ≡ true = all-at _ 0 e in
-      let walk : (fit && closed) ≡ true = sym walk-whole ∙ all-at _ 1 e in
-      let pairs : (pagesDiffer && slotsDiffer) ≡ true = sym (pairs-are es) ∙ all-at _ 2 e in
+      let walk : (fit && closed) ≡ true = sym walk-whole ∙ all-at _ 2 e in
+      let pairs : (pagesDiffer && slotsDiffer) ≡ true = sym (pairs-are es) ∙ all-at _ 3 e in
       and-both (isRecordEncoding d) (recordFits t (decodeRecord d))
       (rw (encoding-is d len (head-count d head), drop-drop (4 * byte d 3) 8 d)
-      (all-of (all-at _ 0 head also all-at _ 4 head also and-right fit _ walk also all-at _ 3 e also none)))
+      (all-of (all-at _ 0 head also all-at _ 4 head also and-right fit _ walk also all-at _ 1 e also none)))
       (rw (decode-entries-length (byte d 3) (drop 8 d))
       (all-of (all-at _ 1 head also all-at _ 2 head also and-left fit _ walk
       also and-left pagesDiffer _ pairs also and-right pagesDiffer _ pairs also all-at _ 3 head also none)))
@@ -163,7 +163,7 @@ module _ (t : Table) (d : Bytes) (len : length d ≡ 256) where
       let pairs : (pagesDiffer && slotsDiffer) ≡ true = and-both pagesDiffer _ (all-at _ 3 fits) (all-at _ 4 fits) in
       all-of
       (all-of (all-at _ 0 bytes also all-at _ 0 fits also few also idle also all-at _ 1 bytes also none)
-      also walk-whole ∙ walk also pairs-are es ∙ pairs also rest also none)
+      also rest also walk-whole ∙ walk also pairs-are es ∙ pairs also none)
 
   record-is : recordTest t d ≡ recordSound t d
   record-is = iff _ _ record-to record-from
@@ -173,19 +173,19 @@ module _ (t : Table) (d : Bytes) (len : length d ≡ 256) where
   unfolding recordTest
   head-no e = sym record-is ∙ all-no _ 0 e
 
-  pub pairs-no : entriesDiffer d ≡ false → recordSound t d ≡ false
-  unfolding recordTest
-  pairs-no e = sym record-is ∙ all-no _ 2 e
-
   module _ (n : ℕ) (q : n ≡ byte d 3) where
+    pub zeros-no : allZero (drop (8 + 4 * n) d) ≡ false → recordSound t d ≡ false
+    unfolding recordTest
+    zeros-no e = sym record-is ∙ all-no _ 1 (rw (← q) e)
+
     pub entries-no : entriesTest t d n ≡ false → recordSound t d ≡ false
     unfolding recordTest
-    entries-no e = sym record-is ∙ all-no _ 1 (rw (← q) e)
+    entries-no e = sym record-is ∙ all-no _ 2 (rw (← q) e)
 
-    pub record-last : recordHeadTest d ≡ true → entriesTest t d n ≡ true → entriesDiffer d ≡ true
-        → allZero (drop (8 + 4 * n) d) ≡ recordSound t d
+    pub record-last : recordHeadTest d ≡ true → allZero (drop (8 + 4 * n) d) ≡ true → entriesTest t d n ≡ true
+        → entriesDiffer d ≡ recordSound t d
     unfolding recordTest
-    record-last a b c = rw q (sym (sym record-is ∙ all-last (a then rw (← q) b then c then final)))
+    record-last a b c = sym (sym record-is ∙ all-last (a then rw (← q) b then rw (← q) c then final))
 
 -- ------------------------------------------------------------------ one entry, as `entry_fits` tests it
 module _ (tb d : Bytes) (i f : ℕ) (e : f ≡ byte d (8 + 4 * i)) where

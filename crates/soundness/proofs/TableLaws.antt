@@ -130,12 +130,12 @@ module _ (d : Bytes) (len : length d ≡ 256) (small : byte d 2 < 256) where
   unfolding tableTest tableHeadTest tableSound decodeTable
   table-to e =
       let head : tableHeadTest d ≡ true = all-at _ 0 e in
-      let walk : (fit && (end && follow)) ≡ true = sym walk-whole ∙ all-at _ 1 e in
+      let walk : (fit && (end && follow)) ≡ true = sym walk-whole ∙ all-at _ 2 e in
       let more : (end && follow) ≡ true = and-right fit _ walk in
       let count : (leb 1 (byte d 5) && leb (byte d 5) 16) ≡ true = and-both (leb 1 (byte d 5)) _ (all-at _ 4 head) (all-at _ 5 head) in
       and-both (same d (encodeTable t)) (tableFits t)
       (rw (encoding-is (head-files d head), drop-drop (4 * byte d 5) 8 d)
-      (all-of (all-at _ 0 head also all-at _ 6 head also and-right end _ more also all-at _ 2 e also none)))
+      (all-of (all-at _ 0 head also all-at _ 6 head also and-right end _ more also all-at _ 1 e also none)))
       (rw (decode-files-length (byte d 5) (drop 8 d))
       (all-of (all-at _ 1 head also all-at _ 2 head also all-at _ 3 head also count
       also and-left fit _ walk also and-left end _ more also none)))
@@ -153,7 +153,7 @@ module _ (d : Bytes) (len : length d ≡ 256) (small : byte d 2 < 256) where
       all-of
       (all-of (all-at _ 0 bytes also all-at _ 0 fits also all-at _ 1 fits also all-at _ 2 fits
       also and-left (leb 1 (byte d 5)) _ count also few also all-at _ 1 bytes also none)
-      also walk-whole ∙ walk also rest also none)
+      also rest also walk-whole ∙ walk also none)
 
   table-is : tableTest d ≡ tableSound d
   table-is = iff _ _ table-to table-from
@@ -163,14 +163,15 @@ module _ (d : Bytes) (len : length d ≡ 256) (small : byte d 2 < 256) where
   unfolding tableTest
   head-no e = sym table-is ∙ all-no _ 0 e
 
-  module _ (n f k : ℕ) (qn : n ≡ word d 2) (qf : f ≡ byte d 5) (qk : k ≡ byte d 4) where
-    pub files-no : filesTest d n f 0 (k + 1) ≡ false → tableSound d ≡ false
+  module _ (f : ℕ) (qf : f ≡ byte d 5) where
+    pub zeros-no : allZero (drop (8 + 4 * f) d) ≡ false → tableSound d ≡ false
     unfolding tableTest
-    files-no e = sym table-is ∙ all-no _ 1 (rw (← qn, ← qf, ← qk) e)
+    zeros-no e = sym table-is ∙ all-no _ 1 (rw (← qf) e)
 
-    pub table-last : tableHeadTest d ≡ true → filesTest d n f 0 (k + 1) ≡ true → allZero (drop (8 + 4 * f) d) ≡ tableSound d
+    pub table-last : (n k : ℕ) → n ≡ word d 2 → k ≡ byte d 4 → tableHeadTest d ≡ true → allZero (drop (8 + 4 * f) d) ≡ true
+        → filesTest d n f 0 (k + 1) ≡ tableSound d
     unfolding tableTest
-    table-last a b = rw qf (sym (sym table-is ∙ all-last (a then rw (← qn, ← qf, ← qk) b then final)))
+    table-last n k qn qk a b = rw (qn, qf, qk) (sym (sym table-is ∙ all-last (a then rw (← qf) b then final)))
 
 -- ------------------------------------------------------------------ one entry, as `file_fits` tests it
 module _ (d : Bytes) (i h : ℕ) where

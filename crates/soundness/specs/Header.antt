@@ -49,8 +49,8 @@ fileWith P R = record { pages = P; slots = R }
 unfoldable pub bodyTest : File → Bytes → Bool
 bodyTest x d = all
     (headerHeadTest d
-    ∷ mapFits (x .slots) (mapBytes (x .pages) d)
     ∷ allZero (drop (8 + x .pages) d)
+    ∷ mapFits (x .slots) (mapBytes (x .pages) d)
     ∷ [])
 
 -- What `sound` asks of all of it but its holder.

@@ -59,9 +59,9 @@ entriesDiffer d = distinct alike (entriesIn d)
 unfoldable pub recordTest : Table → Bytes → Bool
 recordTest t d = all
     (recordHeadTest d
+    ∷ allZero (drop (8 + 4 * byte d 3) d)
     ∷ entriesTest t d (byte d 3)
     ∷ entriesDiffer d
-    ∷ allZero (drop (8 + 4 * byte d 3) d)
     ∷ [])
 
 -- What `sound` asks of a record.

@@ -41,8 +41,8 @@ tableHeadTest d = all
 unfoldable pub tableTest : Bytes → Bool
 tableTest d = all
     (tableHeadTest d
-    ∷ filesTest d (word d 2) (byte d 5) 0 (byte d 4 + 1)
     ∷ allZero (drop (8 + 4 * byte d 5) d)
+    ∷ filesTest d (word d 2) (byte d 5) 0 (byte d 4 + 1)
     ∷ [])
 
 -- What `sound` asks of the table alone.

@@ -43,10 +43,10 @@ fn body_is_sound(d: &[u8], pages: usize, slots: u8, seen: &mut [u64; 4]) -> bool
     if !head_fits(d) {
         return false;
     }
-    if !map_fits(d, pages, slots, seen) {
+    if !zero_from(d, HEAD + pages) {
         return false;
     }
-    zero_from(d, HEAD + pages)
+    map_fits(d, pages, slots, seen)
 }
 
 // Whether the first eight bytes fit, whatever the holder.

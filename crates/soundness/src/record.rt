@@ -23,13 +23,13 @@ pub fn record_is_sound(table: &[u8], d: &[u8]) -> bool
         return false;
     }
     let n = size(d[3]);
+    if !zero_from(d, HEAD + ENTRY * n) {
+        return false;
+    }
     if !entries_fit(table, d, n) {
         return false;
     }
-    if !entries_differ(d, n) {
-        return false;
-    }
-    zero_from(d, HEAD + ENTRY * n)
+    entries_differ(d, n)
 }
 
 // Whether the first eight bytes fit: the mark, the state, the number of entries and four zero bytes.

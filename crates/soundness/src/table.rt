@@ -25,10 +25,10 @@ pub fn table_is_sound(d: &[u8]) -> bool
         return false;
     }
     let files = size(d[5]);
-    if !files_fit(d, sectors, files, size(d[4]) + 1) {
+    if !zero_from(d, HEAD + ENTRY * files) {
         return false;
     }
-    zero_from(d, HEAD + ENTRY * files)
+    files_fit(d, sectors, files, size(d[4]) + 1)
 }
 
 // Whether the first eight bytes fit: the mark, the three counts and two zero bytes.
