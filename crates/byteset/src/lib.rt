@@ -1,6 +1,7 @@
 // A set of bytes in four words of 64 bits: byte x is bit x % 64 of word x / 64.
 use sector::size;
 ghost use mathlib.Core.Path.{_≡_};
+ghost use mathlib.Core.Bool.{not};
 ghost use Prim.Native.Nat.{_/_, _%_, _^_, _<_};
 ghost use lib.ListN.{length};
 ghost use Rattle.byteset.specs.Set.{hasByte, withByte};
@@ -43,4 +44,36 @@ pub fn add(seen: &mut [u64; 4], x: u8)
     let i = index(x);
     let m = mask(x);
     seen[i] = seen[i] | m;
+}
+
+// Puts byte x into the set. The answer is whether it was absent.
+pub fn insert(seen: &mut [u64; 4], x: u8) -> bool
+    requires { ⌜ length (now seen) ≡ 4 ⌝ }
+    ensures { λ r. ⌜ (r ≡ not (hasByte (now (seen .entry)) x)) × (now (seen .exit) ≡ withByte (now (seen .entry)) x) × (length (now (seen .exit)) ≡ 4) ⌝ }
+{
+    let i = index(x);
+    let m = mask(x);
+    let word = seen[i];
+    seen[i] = word | m;
+    word & m == 0
+}
+
+// The same for a set of numbers below 1,024, in sixteen words.
+pub fn insert_number(seen: &mut [u64; 16], x: usize) -> bool
+    requires { ⌜ (length (now seen) ≡ 16) × (x < 1024) ⌝ }
+    ensures { λ r. ⌜ (r ≡ not (hasByte (now (seen .entry)) x)) × (now (seen .exit) ≡ withByte (now (seen .entry)) x) × (length (now (seen .exit)) ≡ 16) ⌝ }
+{
+    let i = x / 64;
+    let m = number_mask(x);
+    let word = seen[i];
+    seen[i] = word | m;
+    word & m == 0
+}
+
+// The word that has only the bit of number x.
+fn number_mask(x: usize) -> u64
+    ensures { λ r. ⌜ r ≡ 2 ^ (x % 64) ⌝ }
+{
+    let k = (x % 64) as u64;
+    1u64 << k
 }

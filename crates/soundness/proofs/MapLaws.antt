@@ -89,10 +89,10 @@ module _ (R : ℕ) (l : List ℕ) where
       pub fresh-high : R ≤ x → w ≡ false
       fresh-high b = here ∙ rw (le-ltb _ _ b)
 
-      pub fresh-seen : x < R → hasByte s x ≡ true → w ≡ false
+      pub fresh-seen : x < R → not (hasByte s x) ≡ false → w ≡ false
       fresh-seen b t = here ∙ rw (lt-ltb _ _ b, t)
 
-      pub fresh-more : x < R → hasByte s x ≡ false → x / 64 < length s → w ≡ freshIn R (hasByte (withByte s x)) (drop (i + 1) l)
+      pub fresh-more : x < R → not (hasByte s x) ≡ true → x / 64 < length s → w ≡ freshIn R (hasByte (withByte s x)) (drop (i + 1) l)
       fresh-more b t r =
           here ∙ rw (lt-ltb _ _ b, t) (ap (λ (g : ℕ → Bool). freshIn R g (drop (i + 1) l)) (λ j y. sym (has-with s x y r) j))
 

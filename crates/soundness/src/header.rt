@@ -4,8 +4,8 @@ use crate::bytes::HEAD;
 use crate::bytes::all_zero;
 use crate::bytes::has_mark;
 use crate::bytes::zero_from;
-use byteset::add;
 use byteset::has;
+use byteset::insert;
 use sector::Sector;
 use sector::part;
 use sector::size;
@@ -72,10 +72,9 @@ fn map_fits(d: &[u8], pages: usize, slots: u8, seen: &mut [u64; 4]) -> bool
         if slots <= x {
             return false;
         }
-        if has(seen, x) {
+        if !insert(seen, x) {
             return false;
         }
-        add(seen, x);
         i += 1;
     }
     true

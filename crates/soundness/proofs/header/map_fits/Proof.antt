@@ -5,6 +5,7 @@ use native.Mathlib.Omega.{arith}
 use mathlib.Core.Path.{_≡_, sym, _∙_}
 use mathlib.Core.Bool.{_||_, false≢true}
 use Prim.Native.Nat.{ℕ, _+_, _-_, _/_, _≤_, _<_}
+use borrow.Author.Tests.{not-true, not-false}
 use lib.ListN.{length, drop}
 use Rattle.sector.specs.Lists.{member}
 use Rattle.sector.specs.Sectors.{byte}
@@ -45,8 +46,8 @@ returns c =
     let no = sym (fresh-high (s .args .slots) m (at .loop .seen) (at .loop .i) _ next _ (at .loop .inv .1) (c .if1 .taken)) in
     record { tells = no; holds = λ q. absurd (false≢true q); words = at .loop .inv .3 }
 
-has-requires : tie.Need-has-requires Inv-loop μ-loop
-has-requires c κs = c .before .before .before .before .loop .inv .3
+insert-requires : tie.Need-insert-requires Inv-loop μ-loop
+insert-requires c κs = c .before .before .before .before .loop .inv .3
 
 returns-2 : tie.Need-returns-2 Inv-loop μ-loop
 returns-2 c =
@@ -55,12 +56,9 @@ returns-2 c =
     let s = at .before .before in
     let m = mapBytes (s .args .pages) (s .args .d .now) in
     let next = next-byte (s .args .pages) (s .args .d .now) (s .pre .0) (s .pre .1) (at .loop .i) (omega arith) in
-    let was = sym (c .before .has .ensures) ∙ c .if2 .taken in
+    let was = sym (c .before .insert .ensures .0) ∙ not-true _ (c .if2 .taken) in
     let no = sym (fresh-seen (s .args .slots) m (at .loop .seen) (at .loop .i) _ next _ (at .loop .inv .1) (e1 .if1 .left) was) in
-    record { tells = no; holds = λ q. absurd (false≢true q); words = at .loop .inv .3 }
-
-add-requires : tie.Need-add-requires Inv-loop μ-loop
-add-requires c κs = c .before .before .before .before .before .before .before .loop .inv .3
+    record { tells = no; holds = λ q. absurd (false≢true q); words = c .before .insert .ensures .2 }
 
 add-i : tie.Need-add-i Inv-loop μ-loop
 add-i c = search needs
@@ -70,18 +68,18 @@ loop-less c = search needs
 
 loop-again : tie.Need-loop-again Inv-loop μ-loop
 loop-again c =
-    let e2 = c .before .before in
-    let e1 = e2 .before .before .before in
+    let put = c .before .insert .ensures in
+    let e1 = c .before .before .before in
     let at = e1 .before .before .before in
     let s = at .before .before in
     let m = mapBytes (s .args .pages) (s .args .d .now) in
     let next = next-byte (s .args .pages) (s .args .d .now) (s .pre .0) (s .pre .1) (at .loop .i) (omega arith) in
     let low : byte (s .args .d .now) (8 + at .loop .i) < s .args .slots = e1 .if1 .left in
     let room : byte (s .args .d .now) (8 + at .loop .i) / 64 < length (at .loop .seen) = omega (arith, low, at .loop .inv .3) in
-    let new = sym (e2 .before .has .ensures) ∙ e2 .if2 .left in
+    let new = sym (put .0) ∙ not-false _ (c .if2 .left) in
     let fresh = fresh-more (s .args .slots) m (at .loop .seen) (at .loop .i) _ next _ (at .loop .inv .1) low new room in
     let seen = seen-more (s .args .slots) m (at .loop .seen) (at .loop .i) _ next room (at .loop .inv .2) in
-    (omega arith, rw (c .add .ensures .0) fresh, rw (c .add .ensures .0) seen, c .add .ensures .1)
+    (omega arith, rw (put .1) fresh, rw (put .1) seen, put .2)
 
 returns-3 : tie.Need-returns-3 Inv-loop μ-loop
 returns-3 c =
@@ -103,9 +101,8 @@ map-fits-spec =
     add-x
     shared-slice-read-x
     returns
-    has-requires
+    insert-requires
     returns-2
-    add-requires
     add-i
     loop-less
     loop-again

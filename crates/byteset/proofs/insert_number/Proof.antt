@@ -1,0 +1,40 @@
+-- `byteset::insert_number` meets its contract: the test is that of `hasByte`, the store that of `withByte`.
+use borrow.Author.Needs.{needs}
+use mathlib.Core.Path.{sym}
+use mathlib.Core.Bool.{Bool·not-not}
+use lib.ListN.{length-set}
+use Rattle.byteset.specs.Set.{hasByte, withByte}
+use Rattle.byteset.proofs.insert_number.Statement.{statement}
+use Rattle.byteset.proofs.insert_number.Tie as tie
+
+number-mask-requires : tie.Need-number-mask-requires
+number-mask-requires c κs = search needs
+
+mul-word : tie.Need-mul-word
+mul-word c = search needs
+
+element-copy-out-word : tie.Need-element-copy-out-word
+element-copy-out-word c = search needs
+
+mul-seen : tie.Need-mul-seen
+mul-seen c = search needs
+
+element-write-seen : tie.Need-element-write-seen
+element-write-seen c = search needs
+
+returns : tie.Need-returns
+unfolding hasByte withByte
+returns c =
+    let m = c .before in
+    (rw (m .number-mask .ensures) (sym (Bool·not-not _)), rw (m .number-mask .ensures), simp length-set (m .before .pre .0))
+
+pub insert-number-spec : {M : Type 1} → statement M
+insert-number-spec =
+    tie.close
+    (tie.spec
+    number-mask-requires
+    mul-word
+    element-copy-out-word
+    mul-seen
+    element-write-seen
+    returns)

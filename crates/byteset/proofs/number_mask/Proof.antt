@@ -1,0 +1,15 @@
+-- `byteset::number_mask` meets its contract: the shift loses no bit, since it is by less than 64.
+use borrow.Author.Needs.{needs}
+use mathlib.Core.Path.{refl}
+use Rattle.byteset.proofs.SetLaws.{mask-is}
+use Rattle.byteset.proofs.number_mask.Statement.{statement}
+use Rattle.byteset.proofs.number_mask.Tie as tie
+
+shl-result : tie.Need-shl-result
+shl-result c = search needs
+
+returns : tie.Need-returns
+returns c = mask-is (c .args .x) _ refl
+
+pub number-mask-spec : {M : Type 1} → statement M
+number-mask-spec = tie.close (tie.spec shl-result returns)
