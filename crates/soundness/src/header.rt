@@ -32,7 +32,7 @@ pub fn header_is_sound(v: &[u8], table: &[u8], f: usize, h: usize) -> bool
     if !body_is_sound(d, pages, slots, &mut seen) {
         return false;
     }
-    holder_fits(v, table, size(d[2]), f, &seen)
+    holder_fits(v, table, size(d[2]), f as u8, &seen)
 }
 
 // Whether all of the header but its holder is sound. If so, `seen` holds the slots of the map then.
@@ -82,7 +82,7 @@ fn map_fits(d: &[u8], pages: usize, slots: u8, seen: &mut [u64; 4]) -> bool
 
 // Whether k may hold file f, whose map has the slots in `seen`: nobody does, or client k with a record
 // that is not idle and gives none of these slots.
-fn holder_fits(v: &[u8], table: &[u8], k: usize, f: usize, seen: &[u64; 4]) -> bool
+fn holder_fits(v: &[u8], table: &[u8], k: usize, f: u8, seen: &[u64; 4]) -> bool
     requires { ⌜ (Tested (now v) (now table)) × (length (now seen) ≡ 4) ⌝ }
     ensures { λ r. ⌜ r ≡ holderTest (now (v .entry)) (byte (now (table .entry)) 4) k f (now (seen .entry)) ⌝ }
 {
@@ -100,7 +100,7 @@ fn holder_fits(v: &[u8], table: &[u8], k: usize, f: usize, seen: &[u64; 4]) -> b
 }
 
 // Whether no entry of record d for file f gives a slot in `seen`.
-fn slots_apart(d: &[u8], n: usize, f: usize, seen: &[u64; 4]) -> bool
+fn slots_apart(d: &[u8], n: usize, f: u8, seen: &[u64; 4]) -> bool
     requires { ⌜ (length (now d) ≡ 256) × (n ≡ byte (now d) 3) × (n ≤ 62) × (length (now seen) ≡ 4) ⌝ }
     ensures { λ r. ⌜ r ≡ slotsApart (now (d .entry)) f (now (seen .entry)) ⌝ }
 {
@@ -115,12 +115,12 @@ fn slots_apart(d: &[u8], n: usize, f: usize, seen: &[u64; 4]) -> bool
 }
 
 // Whether entry i of record d is for another file than f, or gives a slot that is not in `seen`.
-fn slot_apart(d: &[u8], f: usize, seen: &[u64; 4], i: usize) -> bool
+fn slot_apart(d: &[u8], f: u8, seen: &[u64; 4], i: usize) -> bool
     requires { ⌜ (length (now d) ≡ 256) × (length (now seen) ≡ 4) × (i < 62) ⌝ }
     ensures { λ r. ⌜ r ≡ slotApart (now (d .entry)) f (now (seen .entry)) i ⌝ }
 {
     let at = HEAD + ENTRY * i;
-    if size(d[at]) != f {
+    if d[at] != f {
         return true;
     }
     !has(seen, d[at + 2])

@@ -67,6 +67,9 @@ shared-slice-read-size-2 c = search needs
 size-requires-2 : tie.Need-size-requires-2
 size-requires-2 c κs = search needs
 
+cast-holder-fits : tie.Need-cast-holder-fits
+cast-holder-fits c = search needs
+
 holder-fits-requires : tie.Need-holder-fits-requires
 holder-fits-requires c κs = search needs
 
@@ -103,5 +106,6 @@ header-is-sound-spec =
     returns
     shared-slice-read-size-2
     size-requires-2
+    cast-holder-fits
     holder-fits-requires
     returns-2)

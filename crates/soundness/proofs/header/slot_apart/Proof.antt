@@ -11,15 +11,12 @@ mul-at c = search needs
 add-at : tie.Need-add-at
 add-at c = search needs
 
-shared-slice-read-size : tie.Need-shared-slice-read-size
-shared-slice-read-size c = search needs
-
-size-requires : tie.Need-size-requires
-size-requires c κs = search needs
+shared-slice-read-if1 : tie.Need-shared-slice-read-if1
+shared-slice-read-if1 c = search needs
 
 returns : tie.Need-returns
 unfolding slotApart
-returns c = rw (← c .before .size .ensures .0, ne-eqb _ _ (c .if1 .taken))
+returns c = rw (ne-eqb _ _ (c .if1 .taken))
 
 add-has : tie.Need-add-has
 add-has c = search needs
@@ -32,9 +29,7 @@ has-requires c κs = search needs
 
 returns-2 : tie.Need-returns-2
 unfolding slotApart
-returns-2 c =
-    let e1 = c .before .before in
-    rw (c .has .ensures, ← e1 .before .size .ensures .0, eq-eqb _ _ (e1 .if1 .left))
+returns-2 c = rw (c .has .ensures, eq-eqb _ _ (c .before .before .if1 .left))
 
 pub slot-apart-spec : {M : Type 1} → statement M
 slot-apart-spec =
@@ -42,8 +37,7 @@ slot-apart-spec =
     (tie.spec
     mul-at
     add-at
-    shared-slice-read-size
-    size-requires
+    shared-slice-read-if1
     returns
     add-has
     shared-slice-read-has
