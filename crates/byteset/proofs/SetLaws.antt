@@ -11,7 +11,7 @@ use native.Mathlib.Omega.{arith}
 use borrow.Author.Tests.{eqb-true, eqb-false, eq-eqb, ne-eqb, ltb-true, ltb-false}
 use lib.Bits.{bitAnd, bitOr, and-high, or-shr, or-mod, or-zero-r, or-add-and, and-le-l, and-le-r}
 use lib.Dec.{eqb, ltb}
-use lib.ListN.{length, getD, set}
+use lib.ListN.{length, getD, set, replicate}
 use lib.Pow.{pow-add, pow-pos, pow-lt, shl-shr, shl-exact, high}
 use lib.Seq.{getD-set-same, getD-set-other}
 use Rattle.byteset.specs.Set.{noBytes, hasByte, withByte}
@@ -84,16 +84,18 @@ mask-is x r e =
     let z : 1 * 2 ^ (x % 64) ≡ 2 ^ (x % 64) = omega arith in
     rw e (shl-exact {a = 1} 1 (x % 64) 64 (omega arith) (omega arith) ∙ z)
 
-pub has-none : (y : ℕ) → hasByte noBytes y ≡ false
+-- A set whose words are zero has nothing in it.
+zeros-at : (n i : ℕ) → _≡_ {A = ℕ} (getD (replicate n 0) i 0) 0
+zeros-at zero i = refl
+zeros-at (suc n) zero = refl
+zeros-at (suc n) (suc i) = zeros-at n i
+
+pub has-zeros : (n y : ℕ) → hasByte (replicate n 0) y ≡ false
 unfolding hasByte
-has-none y = go (y / 64)
-  where
-    go : (i : ℕ) → bit (getD noBytes i 0) (y % 64) ≡ false
-    go zero = refl
-    go (suc zero) = refl
-    go (suc (suc zero)) = refl
-    go (suc (suc (suc zero))) = refl
-    go (suc (suc (suc (suc i)))) = refl
+has-zeros n y = rw (zeros-at n (y / 64))
+
+pub has-none : (y : ℕ) → hasByte noBytes y ≡ false
+has-none y = has-zeros 4 y
 
 pub has-with : (s : List ℕ) (x y : ℕ) → x / 64 < length s → hasByte (withByte s x) y ≡ (eqb y x || hasByte s y)
 unfolding hasByte withByte

@@ -1,4 +1,5 @@
-// A set of bytes in four words of 64 bits: byte x is bit x % 64 of word x / 64.
+// A set of bytes in four words of 64 bits: byte x is bit x % 64 of word x / 64. A set of numbers below
+// 1,024 is the same in sixteen words.
 use sector::size;
 ghost use mathlib.Core.Path.{_≡_};
 ghost use mathlib.Core.Bool.{not};
@@ -58,7 +59,7 @@ pub fn insert(seen: &mut [u64; 4], x: u8) -> bool
     word & m == 0
 }
 
-// The same for a set of numbers below 1,024, in sixteen words.
+// Puts number x into the set. The answer is whether it was absent.
 pub fn insert_number(seen: &mut [u64; 16], x: usize) -> bool
     requires { ⌜ (length (now seen) ≡ 16) × (x < 1024) ⌝ }
     ensures { λ r. ⌜ (r ≡ not (hasByte (now (seen .entry)) x)) × (now (seen .exit) ≡ withByte (now (seen .entry)) x) × (length (now (seen .exit)) ≡ 16) ⌝ }

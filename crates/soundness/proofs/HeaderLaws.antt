@@ -25,9 +25,10 @@ use Rattle.volume.specs.Volumes.{bytesAt, recordIn}
 use Rattle.volume.specs.Sound.{isHeaderEncoding}
 use Rattle.volume.proofs.PlaceLaws.{is-client}
 use Rattle.soundness.specs.Bytes.{allZero, marked}
+use Rattle.soundness.specs.Distinct.{distinctBelow}
 use Rattle.byteset.specs.Set.{hasByte, Holds}
 use Rattle.soundness.specs.Record.{entriesIn}
-use Rattle.soundness.specs.Header.{mapBytes, mapFits, headerHeadTest, fileWith, bodyTest, bodySound, slotsApart, holderTest, headerSound}
+use Rattle.soundness.specs.Header.{mapBytes, headerHeadTest, fileWith, bodyTest, bodySound, slotsApart, holderTest, headerSound}
 use Rattle.sector.proofs.TestLaws.{iff, or-and-same, all-no, all-of, all-last, none, _also_, final, _then_}
 use Rattle.soundness.proofs.BytesLaws.{same-padding}
 use Rattle.soundness.proofs.DecodingLaws.{same-self, first-eight, file-is}
@@ -85,7 +86,7 @@ module _ (x : File) (d : Bytes) (len : length d ≡ 256) (few : x .pages ≤ 120
   zeros-no e = sym body-is ∙ all-no _ 1 e
 
   pub body-last : headerHeadTest d ≡ true → allZero (drop (8 + x .pages) d) ≡ true
-      → mapFits (x .slots) (mapBytes (x .pages) d) ≡ bodySound x d
+      → distinctBelow (x .slots) (mapBytes (x .pages) d) ≡ bodySound x d
   unfolding bodyTest
   body-last a b = sym (sym body-is ∙ all-last (a then b then final))
 
@@ -146,7 +147,7 @@ module _ (v : Volume) (t : Table) (f : ℕ) (d : Bytes) (len : length d ≡ 256)
       (λ p q. let n : k ≢ 0 = eqb-false _ _ p in ap₂ givesNone (sym (record-of k (omega arith) (leb-true _ _ q))) has-is)
 
   whole-is : (s : List ℕ) → bodySound x d ≡ true → Holds s m → whole ≡ holderTest v (t .clients) (byte d 2) f s
-  unfolding bodySound decodeHeader mapFits all
+  unfolding bodySound decodeHeader distinctBelow all
   whole-is s e hs =
       let bytes : isHeaderEncoding x d ≡ true = and-left (isHeaderEncoding x d) _ e in
       let fits : (low && distinct eqb m) ≡ true = and-right (isHeaderEncoding x d) _ e in
@@ -154,7 +155,7 @@ module _ (v : Volume) (t : Table) (f : ℕ) (d : Bytes) (len : length d ≡ 256)
       rw (bytes, and-left low _ fits, and-right low _ fits, count) (and-true _ ∙ sym (holder-is s hs (byte d 2)))
 
   whole-no : bodySound x d ≡ false → whole ≡ false
-  unfolding bodySound decodeHeader mapFits
+  unfolding bodySound decodeHeader distinctBelow
   whole-no e = go (isHeaderEncoding x d) refl low refl (distinct eqb m) refl
     where
       go : (a : Bool) → isHeaderEncoding x d ≡ a → (b : Bool) → low ≡ b → (c : Bool) → distinct eqb m ≡ c → whole ≡ false

@@ -2,6 +2,8 @@ pub mod BytesLaws
 pub mod DecodingLaws
 pub mod TableLaws
 pub mod RecordLaws
+pub mod PlacedLaws
+pub mod FreshLaws
 pub mod MapLaws
 pub mod HeaderLaws
 pub mod SoundLaws

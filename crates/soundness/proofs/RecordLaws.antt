@@ -1,7 +1,6 @@
 -- A record as the code tests it is a record that `sound` asks for.
--- Both come apart into the same tests: the first eight bytes, each entry's numbers and its last byte, no two entries alike, and
--- the zero bytes. `same` against the encoding gives the last bytes, entry by entry; "no page twice" and "no slot twice" are
--- one test of every pair.
+-- Both come apart into the same tests: the first eight bytes, the zero bytes, each entry's numbers and its last byte, no page and
+-- no slot twice. `same` against the encoding gives the last bytes, entry by entry.
 use mathlib.Core.Path.{_≡_, refl, sym, ap, ap₂, _∙_, subst}
 use mathlib.Core.Bool.{Bool, true, false, not, _&&_, _||_, and-assoc, and-true}
 use mathlib.Core.List.{List, [], _∷_, _++_}
@@ -11,18 +10,17 @@ use borrow.Author.Tests.{leb-true, le-leb, lt-leb, lt-ltb, le-ltb}
 use lib.Dec.{eqb, leb}
 use lib.ListN.{length, take, drop, length-drop}
 use lib.Seq.{drop-drop, getD-drop}
-use Rattle.sector.specs.Lists.{all, every, any, distinct, from, same}
+use Rattle.sector.specs.Lists.{all, every, from, same}
 use Rattle.sector.specs.Contents.{Bytes, Table, Entry}
 use Rattle.sector.specs.Sectors.{byte, padded}
 use Rattle.sector.specs.Encoding.{entryBytes, encodeRecord}
 use Rattle.sector.specs.Decoding.{decodeEntries, decodeRecord, decodeTable, entryIn}
 use Rattle.sector.proofs.ListLaws.{and-left, and-right, and-both, all-at}
 use Rattle.sector.proofs.CodecLaws.{entries-length, decode-entries-length}
-use Rattle.sector.specs.Entries.{forPage, givesSlot}
 use Rattle.volume.specs.Lawful.{entryFits, recordFits}
 use Rattle.volume.specs.Sound.{isRecordEncoding}
 use Rattle.soundness.specs.Bytes.{allZero, marked}
-use Rattle.soundness.specs.Record.{emptyIfIdle, recordHeadTest, entryTest, entriesTest, entriesIn, alike, entriesDiffer, recordTest, recordSound}
+use Rattle.soundness.specs.Record.{emptyIfIdle, recordHeadTest, entryTest, entriesTest, entriesIn, pagesDiffer, slotsDiffer, entriesDiffer, recordTest, recordSound}
 use Rattle.sector.proofs.TestLaws.{iff, and-swap, all-no, all-of, all-last, none, _also_, final, _then_}
 use Rattle.soundness.proofs.BytesLaws.{same-padding}
 use Rattle.soundness.proofs.DecodingLaws.{same-self, first-four, first-eight, firstEntry, first-entry, files-are, file-is}
@@ -61,31 +59,6 @@ walk-is t d (suc n) i l q =
     rw (first, walk-is t d n (suc i) (drop 4 l) q2)
     (and-swap (entryFits t (firstEntry l)) (eqb (byte l 3) 0) _ _)
 
--- ------------------------------------------------------------------ every pair of entries
-any-or : (t q : Entry → Bool) (xs : List Entry) → any (λ x. t x || q x) xs ≡ (any t xs || any q xs)
-any-or t q [] = refl
-any-or t q (x ∷ xs) = rw (any-or t q xs) (swap (t x) (q x) (any t xs) (any q xs))
-  where
-    swap : (a b c e : Bool) → ((a || b) || (c || e)) ≡ ((a || c) || (b || e))
-    swap true b c e = refl
-    swap false true true e = refl
-    swap false true false e = refl
-    swap false false c e = refl
-
-pairs-are : (xs : List Entry)
-    → distinct alike xs ≡ (distinct (λ e d. forPage (e .file) (e .page) d) xs && distinct (λ e d. givesSlot (e .file) (e .slot) d) xs)
-unfolding alike
-pairs-are [] = refl
-pairs-are (x ∷ xs) =
-    rw (any-or (forPage (x .file) (x .page)) (givesSlot (x .file) (x .slot)) xs, pairs-are xs)
-    (swap (any (forPage (x .file) (x .page)) xs) (any (givesSlot (x .file) (x .slot)) xs) _ _)
-  where
-    swap : (a b c e : Bool) → (not (a || b) && (c && e)) ≡ ((not a && c) && (not b && e))
-    swap true b c e = refl
-    swap false true true e = refl
-    swap false true false e = refl
-    swap false false c e = refl
-
 -- ------------------------------------------------------------------ the whole record
 -- What `same` against the encoding comes to.
 abbrev encodedBy : Bytes → Bool
@@ -119,7 +92,7 @@ sound-count t d e =
     rw (decode-entries-length (byte d 3) (drop 8 d)) at n
 
 module _ (t : Table) (d : Bytes) (len : length d ≡ 256) where
-  -- The entries, as read, and four tests of them.
+  -- The entries, as read, and two tests of them.
   abbrev es : List Entry
   es = decodeEntries (byte d 3) (drop 8 d)
 
@@ -129,12 +102,6 @@ module _ (t : Table) (d : Bytes) (len : length d ≡ 256) where
   abbrev closed : Bool
   closed = endZero (byte d 3) (drop 8 d)
 
-  abbrev pagesDiffer : Bool
-  pagesDiffer = distinct (λ e d. forPage (e .file) (e .page) d) es
-
-  abbrev slotsDiffer : Bool
-  slotsDiffer = distinct (λ e d. givesSlot (e .file) (e .slot) d) es
-
   walk-whole : every (entryTest t d) (from 0 (byte d 3)) ≡ (fit && closed)
   walk-whole = walk-is t d (byte d 3) 0 (drop 8 d) refl
 
@@ -143,13 +110,13 @@ module _ (t : Table) (d : Bytes) (len : length d ≡ 256) where
   record-to e =
       let head : recordHeadTest d ≡ true = all-at _ 0 e in
       let walk : (fit && closed) ≡ true = sym walk-whole ∙ all-at _ 2 e in
-      let pairs : (pagesDiffer && slotsDiffer) ≡ true = sym (pairs-are es) ∙ all-at _ 3 e in
+      let pairs : (pagesDiffer es && slotsDiffer es) ≡ true = all-at _ 3 e in
       and-both (isRecordEncoding d) (recordFits t (decodeRecord d))
       (rw (encoding-is d len (head-count d head), drop-drop (4 * byte d 3) 8 d)
       (all-of (all-at _ 0 head also all-at _ 4 head also and-right fit _ walk also all-at _ 1 e also none)))
       (rw (decode-entries-length (byte d 3) (drop 8 d))
       (all-of (all-at _ 1 head also all-at _ 2 head also and-left fit _ walk
-      also and-left pagesDiffer _ pairs also and-right pagesDiffer _ pairs also all-at _ 3 head also none)))
+      also and-left (pagesDiffer es) _ pairs also and-right (pagesDiffer es) _ pairs also all-at _ 3 head also none)))
 
   record-from : recordSound t d ≡ true → recordTest t d ≡ true
   unfolding recordTest recordHeadTest emptyIfIdle entriesTest entriesDiffer entriesIn recordSound decodeRecord
@@ -160,10 +127,10 @@ module _ (t : Table) (d : Bytes) (len : length d ≡ 256) where
       let bytes : encodedBy d ≡ true = sym (encoding-is d len (leb-true _ _ few)) ∙ and-left (isRecordEncoding d) _ e in
       let rest : allZero (drop (8 + 4 * byte d 3) d) ≡ true = rw (drop-drop (4 * byte d 3) 8 d) at (all-at _ 3 bytes) in
       let walk : (fit && closed) ≡ true = and-both fit _ (all-at _ 2 fits) (all-at _ 2 bytes) in
-      let pairs : (pagesDiffer && slotsDiffer) ≡ true = and-both pagesDiffer _ (all-at _ 3 fits) (all-at _ 4 fits) in
+      let pairs : (pagesDiffer es && slotsDiffer es) ≡ true = and-both (pagesDiffer es) _ (all-at _ 3 fits) (all-at _ 4 fits) in
       all-of
       (all-of (all-at _ 0 bytes also all-at _ 0 fits also few also idle also all-at _ 1 bytes also none)
-      also rest also walk-whole ∙ walk also pairs-are es ∙ pairs also none)
+      also rest also walk-whole ∙ walk also pairs also none)
 
   record-is : recordTest t d ≡ recordSound t d
   record-is = iff _ _ record-to record-from

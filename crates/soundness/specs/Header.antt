@@ -3,9 +3,9 @@ use mathlib.Core.Path.{_≡_}
 use mathlib.Core.Bool.{Bool, true, not, _&&_, _||_}
 use mathlib.Core.List.{List, [], _∷_}
 use Prim.Native.Nat.{ℕ, _+_}
-use lib.Dec.{eqb, leb, ltb}
+use lib.Dec.{eqb, leb}
 use lib.ListN.{length, take, drop}
-use Rattle.sector.specs.Lists.{all, every, distinct}
+use Rattle.sector.specs.Lists.{all, every}
 use Rattle.sector.specs.Contents.{Bytes, File, Table, Entry}
 use Rattle.sector.specs.Sectors.{Volume, sector, byte}
 use Rattle.sector.specs.Decoding.{decodeHeader, entryIn}
@@ -15,21 +15,13 @@ use Rattle.volume.specs.Lawful.{headerFits}
 use Rattle.volume.specs.Volumes.{bytesAt, recordIn}
 use Rattle.volume.specs.Sound.{isHeaderEncoding}
 use Rattle.soundness.specs.Bytes.{allZero, marked}
+use Rattle.soundness.specs.Distinct.{distinctBelow}
 use Rattle.byteset.specs.Set.{hasByte, Holds}
 use Rattle.soundness.specs.Record.{entriesIn}
 
 -- The map of a file of P pages.
 abbrev pub mapBytes : ℕ → Bytes → List ℕ
 mapBytes P d = take P (drop 8 d)
-
--- Map bytes are below R and distinct.
-unfoldable pub mapFits : ℕ → List ℕ → Bool
-mapFits R m = every (λ r. ltb r R) m && distinct eqb m
-
--- Each byte of the list is below R, not among those seen, and not the same as one before it.
-unfoldable pub freshIn : ℕ → (ℕ → Bool) → List ℕ → Bool
-freshIn R seen [] = true
-freshIn R seen (x ∷ xs) = ltb x R && (not (seen x) && freshIn R (λ y. eqb y x || seen y) xs)
 
 -- What a test of the map leaves: its answer, and where that is `true`, the slots of the map in the set s.
 pub record Scanned (P : ℕ) (d : Bytes) (test answer : Bool) (s : List ℕ) : Type 0 where
@@ -50,12 +42,12 @@ unfoldable pub bodyTest : File → Bytes → Bool
 bodyTest x d = all
     (headerHeadTest d
     ∷ allZero (drop (8 + x .pages) d)
-    ∷ mapFits (x .slots) (mapBytes (x .pages) d)
+    ∷ distinctBelow (x .slots) (mapBytes (x .pages) d)
     ∷ [])
 
 -- What `sound` asks of all of it but its holder.
 unfoldable pub bodySound : File → Bytes → Bool
-bodySound x d = isHeaderEncoding x d && mapFits (x .slots) (mapBytes (x .pages) d)
+bodySound x d = isHeaderEncoding x d && distinctBelow (x .slots) (mapBytes (x .pages) d)
 
 -- The entry is for another file than f, or gives a slot that is not in the set s.
 abbrev pub apartFrom : ℕ → List ℕ → Entry → Bool

@@ -1,4 +1,5 @@
 pub mod Bytes
+pub mod Distinct
 pub mod Table
 pub mod Record
 pub mod Header

@@ -1,13 +1,13 @@
 -- An intentions record, as a program tests it: entry by entry, by index.
 use mathlib.Core.Bool.{Bool, not, _&&_, _||_}
-use mathlib.Core.List.{List, [], _∷_}
-use Prim.Native.Nat.{ℕ, _+_, _*_}
+use mathlib.Core.List.{List, [], _∷_, map}
+use Prim.Native.Nat.{ℕ, _+_, _*_, _-_, _≤_, _<_}
 use lib.Dec.{eqb, leb}
 use lib.ListN.{take, drop}
-use Rattle.sector.specs.Lists.{all, every, any, distinct, from}
+use Rattle.sector.specs.Lists.{all, every, distinct, from}
 use Rattle.sector.specs.Contents.{Bytes, Table, Entry}
 use Rattle.sector.specs.Sectors.{Volume, sector, byte}
-use Rattle.sector.specs.Decoding.{decodeEntries, decodeRecord, entryIn}
+use Rattle.sector.specs.Decoding.{headerSectorIn, decodeEntries, decodeRecord, entryIn}
 use Rattle.sector.specs.Entries.{forPage, givesSlot}
 use Rattle.volume.specs.Lawful.{entryFits, recordFits}
 use Rattle.volume.specs.Sound.{isRecordEncoding}
@@ -39,21 +39,33 @@ entriesTest t d n = every (entryTest t d) (from 0 n)
 unfoldable pub entriesIn : Bytes → List Entry
 entriesIn d = decodeEntries (byte d 3) (drop 8 d)
 
--- Both entries are for one page, or give one slot.
-unfoldable pub alike : Entry → Entry → Bool
-alike e d = forPage (e .file) (e .page) d || givesSlot (e .file) (e .slot) d
+-- No two entries are for one page.
+abbrev pub pagesDiffer : List Entry → Bool
+pagesDiffer es = distinct (λ e d. forPage (e .file) (e .page) d) es
 
--- Entries i and j are alike.
-unfoldable pub alikeAt : Bytes → ℕ → ℕ → Bool
-alikeAt d i j = alike (entryIn d i) (entryIn d j)
+-- No two entries give one slot.
+abbrev pub slotsDiffer : List Entry → Bool
+slotsDiffer es = distinct (λ e d. givesSlot (e .file) (e .slot) d) es
 
--- An entry after entry i is like it.
-unfoldable pub alikeLater : Bytes → ℕ → Bool
-alikeLater d i = any (alike (entryIn d i)) (drop (i + 1) (entriesIn d))
-
--- No two entries are alike.
+-- Both hold of the record.
 unfoldable pub entriesDiffer : Bytes → Bool
-entriesDiffer d = distinct alike (entriesIn d)
+entriesDiffer d = pagesDiffer (entriesIn d) && slotsDiffer (entriesIn d)
+
+-- The sector that is as many sectors after the header of entry i's file as byte o of the entry says: another one for each page
+-- (o is 1) and for each slot (o is 2) of any file.
+unfoldable pub sectorFor : Bytes → Bytes → ℕ → ℕ → ℕ
+sectorFor tb d o i = headerSectorIn tb (byte d (8 + 4 * i) - 1) + byte d (8 + 4 * i + o)
+
+-- These sectors of the first n entries.
+abbrev pub sectorsFor : Bytes → Bytes → ℕ → ℕ → List ℕ
+sectorsFor tb d o n = map (sectorFor tb d o) (from 0 n)
+
+-- What the walk over these sectors takes from the tests before it: each entry's file is one of at most 16, and the sector is
+-- one of at most 1,024.
+pub record Placed (tb d : Bytes) (o n : ℕ) : Type 0 where
+  pub low : (i : ℕ) → i < n → 1 ≤ byte d (8 + 4 * i)
+  pub high : (i : ℕ) → i < n → byte d (8 + 4 * i) ≤ 16
+  pub inside : (i : ℕ) → i < n → sectorFor tb d o i < 1024
 
 -- The whole record fits.
 unfoldable pub recordTest : Table → Bytes → Bool

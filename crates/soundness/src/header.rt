@@ -16,7 +16,8 @@ ghost use Rattle.sector.specs.Sectors.{byte};
 ghost use Rattle.sector.specs.Decoding.{decodeTable};
 ghost use Rattle.volume.specs.Places.{headerSector};
 ghost use Rattle.byteset.specs.Set.{noBytes};
-ghost use Rattle.soundness.specs.Header.{mapBytes, mapFits, Scanned, headerHeadTest, fileWith, bodySound, slotApart, slotsApart, holderTest, headerSound};
+ghost use Rattle.soundness.specs.Header.{mapBytes, Scanned, headerHeadTest, fileWith, bodySound, slotApart, slotsApart, holderTest, headerSound};
+ghost use Rattle.soundness.specs.Distinct.{distinctBelow};
 ghost use Rattle.soundness.specs.Tested.{Tested};
 
 // Whether the header of file f, in sector h, is sound.
@@ -64,7 +65,7 @@ fn head_fits(d: &[u8]) -> bool
 // holds them then.
 fn map_fits(d: &[u8], pages: usize, slots: u8, seen: &mut [u64; 4]) -> bool
     requires { ⌜ (length (now d) ≡ 256) × (pages ≤ 120) × (now seen ≡ noBytes) × (length (now seen) ≡ 4) ⌝ }
-    ensures { λ r. ⌜ Scanned pages (now (d .entry)) (mapFits slots (mapBytes pages (now (d .entry)))) r (now (seen .exit)) ⌝ }
+    ensures { λ r. ⌜ Scanned pages (now (d .entry)) (distinctBelow slots (mapBytes pages (now (d .entry)))) r (now (seen .exit)) ⌝ }
 {
     let mut i = 0;
     while i < pages {

@@ -16,12 +16,14 @@ use sector::part;
 use sector::size;
 use sector::word_at;
 ghost use mathlib.Core.Path.{_≡_};
+ghost use mathlib.Core.Bool.{true};
 ghost use Prim.Native.Nat.{_+_, _*_, _≤_};
 ghost use lib.ListN.{length};
 ghost use Rattle.sector.specs.Lists.{every, from};
 ghost use Rattle.sector.specs.Sectors.{byte};
 ghost use Rattle.sector.specs.Decoding.{decodeTable};
 ghost use Rattle.volume.specs.Sound.{sound};
+ghost use Rattle.soundness.specs.Table.{tableSound};
 ghost use Rattle.soundness.specs.Record.{recordSoundIn};
 ghost use Rattle.soundness.specs.Header.{headerSound};
 ghost use Rattle.soundness.specs.Tested.{Tested};
@@ -50,7 +52,7 @@ pub fn is_sound(v: &[u8]) -> bool
 
 // Whether the records of clients 1 to `n` are sound.
 fn records_are_sound(v: &[u8], table: &[u8], n: usize) -> bool
-    requires { ⌜ (length (now table) ≡ 256) × (byte (now table) 5 ≤ 16) × (n ≤ 4) × (256 * n + 256 ≤ length (now v)) ⌝ }
+    requires { ⌜ (length (now table) ≡ 256) × (byte (now table) 5 ≤ 16) × (tableSound (now table) ≡ true) × (n ≤ 4) × (256 * n + 256 ≤ length (now v)) ⌝ }
     ensures { λ r. ⌜ r ≡ every (recordSoundIn (decodeTable (now (table .entry))) (now (v .entry))) (from 1 n) ⌝ }
 {
     let mut k = 1;

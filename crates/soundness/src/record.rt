@@ -5,18 +5,28 @@ use crate::bytes::HEAD;
 use crate::bytes::all_zero;
 use crate::bytes::has_mark;
 use crate::bytes::zero_from;
+use byteset::insert_number;
 use sector::Sector;
 use sector::size;
+use sector::word_at;
 ghost use mathlib.Core.Path.{_≡_};
-ghost use Prim.Native.Nat.{_≤_, _<_};
+ghost use mathlib.Core.Bool.{true};
+ghost use Prim.Native.Nat.{_+_, _*_, _≤_, _<_};
 ghost use lib.ListN.{length};
 ghost use Rattle.sector.specs.Sectors.{byte};
 ghost use Rattle.sector.specs.Decoding.{decodeTable};
-ghost use Rattle.soundness.specs.Record.{emptyIfIdle, recordHeadTest, entryTest, entriesTest, alikeAt, alikeLater, entriesDiffer, recordSound};
+ghost use Rattle.soundness.specs.Record.{emptyIfIdle, recordHeadTest, entryTest, entriesTest, entriesDiffer, sectorFor, sectorsFor, Placed, recordSound};
+ghost use Rattle.soundness.specs.Table.{tableSound};
+ghost use Rattle.soundness.specs.Distinct.{distinctBelow};
+
+// Which byte of an entry is its page, and which its slot.
+const PAGE: usize = 1;
+
+const SLOT: usize = 2;
 
 // Whether the record is sound, by the table.
 pub fn record_is_sound(table: &[u8], d: &[u8]) -> bool
-    requires { ⌜ (length (now table) ≡ 256) × (length (now d) ≡ 256) × (byte (now table) 5 ≤ 16) ⌝ }
+    requires { ⌜ (length (now table) ≡ 256) × (length (now d) ≡ 256) × (byte (now table) 5 ≤ 16) × (tableSound (now table) ≡ true) ⌝ }
     ensures { λ r. ⌜ r ≡ recordSound (decodeTable (now (table .entry))) (now (d .entry)) ⌝ }
 {
     if !head_fits(d) {
@@ -29,7 +39,7 @@ pub fn record_is_sound(table: &[u8], d: &[u8]) -> bool
     if !entries_fit(table, d, n) {
         return false;
     }
-    entries_differ(d, n)
+    entries_differ(table, d, n)
 }
 
 // Whether the first eight bytes fit: the mark, the state, the number of entries and four zero bytes.
@@ -99,44 +109,45 @@ fn entry_fits(table: &[u8], d: &[u8], i: usize) -> bool
     d[at + 3] == 0
 }
 
-// Whether no two of the n entries are for the same page or give the same slot.
-fn entries_differ(d: &[u8], n: usize) -> bool
-    requires { ⌜ (length (now d) ≡ 256) × (n ≡ byte (now d) 3) × (n ≤ 62) ⌝ }
+// Whether no two of the n entries are for the same page or give the same slot. As many sectors after its
+// file's header as the page number, or the slot number, is a sector for each of them.
+fn entries_differ(table: &[u8], d: &[u8], n: usize) -> bool
+    requires { ⌜ (length (now table) ≡ 256) × (length (now d) ≡ 256) × (tableSound (now table) ≡ true) × (n ≡ byte (now d) 3) × (n ≤ 62) × (entriesTest (decodeTable (now table)) (now d) n ≡ true) ⌝ }
     ensures { λ r. ⌜ r ≡ entriesDiffer (now (d .entry)) ⌝ }
 {
-    for i in 0..n {
-        if alike_later(d, n, i) {
+    if n < 2 {
+        return true;
+    }
+    if !sectors_differ(table, d, n, PAGE) {
+        return false;
+    }
+    sectors_differ(table, d, n, SLOT)
+}
+
+// Whether no two of these sectors are the same, by byte `o` of each of the n entries.
+fn sectors_differ(table: &[u8], d: &[u8], n: usize, o: usize) -> bool
+    requires { ⌜ (length (now table) ≡ 256) × (length (now d) ≡ 256) × (n ≤ 62) × (o ≤ 3) × Placed (now table) (now d) o n ⌝ }
+    ensures { λ r. ⌜ r ≡ distinctBelow 1024 (sectorsFor (now (table .entry)) (now (d .entry)) o n) ⌝ }
+{
+    let mut seen = [0u64; 16];
+    let mut i = 0;
+    while i < n {
+        let s = sector_for(table, d, o, i);
+        if !insert_number(&mut seen, s) {
             return false;
         }
+        i += 1;
     }
     true
 }
 
-// Whether an entry after entry i is like it.
-fn alike_later(d: &[u8], n: usize, i: usize) -> bool
-    requires { ⌜ (length (now d) ≡ 256) × (n ≡ byte (now d) 3) × (n ≤ 62) × (i < n) ⌝ }
-    ensures { λ r. ⌜ r ≡ alikeLater (now (d .entry)) i ⌝ }
+// The sector for byte `o` of entry i.
+fn sector_for(table: &[u8], d: &[u8], o: usize, i: usize) -> usize
+    requires { ⌜ (length (now table) ≡ 256) × (length (now d) ≡ 256) × (i < 62) × (o ≤ 3) × (1 ≤ byte (now d) (8 + 4 * i)) × (byte (now d) (8 + 4 * i) ≤ 16) ⌝ }
+    ensures { λ r. ⌜ r ≡ sectorFor (now (table .entry)) (now (d .entry)) o i ⌝ }
 {
-    for j in i + 1..n {
-        if alike_at(d, i, j) {
-            return true;
-        }
-    }
-    false
-}
-
-// Whether entries i and j are for the same page, or give the same slot, of one file.
-fn alike_at(d: &[u8], i: usize, j: usize) -> bool
-    requires { ⌜ (length (now d) ≡ 256) × (i < 62) × (j < 62) ⌝ }
-    ensures { λ r. ⌜ r ≡ alikeAt (now (d .entry)) i j ⌝ }
-{
-    let a = HEAD + ENTRY * i;
-    let b = HEAD + ENTRY * j;
-    if d[b] != d[a] {
-        return false;
-    }
-    if d[b + 1] == d[a + 1] {
-        return true;
-    }
-    d[b + 2] == d[a + 2]
+    let at = HEAD + ENTRY * i;
+    let f = size(d[at]);
+    let header = word_at(table, HEAD + ENTRY * (f - 1));
+    header + size(d[at + o])
 }

@@ -54,7 +54,7 @@ records-are-sound-requires c κs =
     let sized : length v ≡ 256 * word tb 2 = rw (m .word-at .ensures .0) at (e3 .if3 .left) in
     let inside = records-inside v tb ok sized in
     let few = few-clients v tb ok sized in
-    (p .part .ensures .1, few-files v tb ok sized, rw (c .size .ensures .0) few, rw (c .size .ensures .0) inside)
+    (p .part .ensures .1, few-files v tb ok sized, ok, rw (c .size .ensures .0) few, rw (c .size .ensures .0) inside)
 
 returns-4 : tie.Need-returns-4
 returns-4 c =

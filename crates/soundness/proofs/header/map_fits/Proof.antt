@@ -3,22 +3,25 @@
 use borrow.Author.Needs.{needs}
 use native.Mathlib.Omega.{arith}
 use mathlib.Core.Path.{_≡_, sym, _∙_}
-use mathlib.Core.Bool.{_||_, false≢true}
+use mathlib.Core.Bool.{false, _||_, false≢true}
 use Prim.Native.Nat.{ℕ, _+_, _-_, _/_, _≤_, _<_}
 use borrow.Author.Tests.{not-true, not-false}
 use lib.ListN.{length, drop}
 use Rattle.sector.specs.Lists.{member}
 use Rattle.sector.specs.Sectors.{byte}
 use Rattle.byteset.specs.Set.{hasByte}
-use Rattle.soundness.specs.Header.{mapBytes, mapFits, freshIn}
-use Rattle.soundness.proofs.MapLaws.{fresh-none, seen-none, seen-more, fresh-high, fresh-seen, fresh-more, fresh-done, seen-done, next-byte, no-byte}
+use Rattle.byteset.proofs.SetLaws.{has-none}
+use Rattle.soundness.specs.Distinct.{distinctBelow, freshIn}
+use Rattle.soundness.specs.Header.{mapBytes}
+use Rattle.soundness.proofs.FreshLaws.{fresh-none, seen-none, seen-more, fresh-high, fresh-seen, fresh-more, fresh-done, seen-done}
+use Rattle.soundness.proofs.MapLaws.{next-byte, no-byte}
 use Rattle.soundness.proofs.header.map_fits.Statement.{statement}
 use Rattle.soundness.proofs.header.map_fits.Tie as tie
 
 abbrev Inv-loop : tie.InvT-loop
 Inv-loop d pages slots seen₀ i₀ seen i =
     (i ≤ pages)
-    × (mapFits slots (mapBytes pages d) ≡ freshIn slots (hasByte seen) (drop i (mapBytes pages d)))
+    × (distinctBelow slots (mapBytes pages d) ≡ freshIn slots (hasByte seen) (drop i (mapBytes pages d)))
     × ((y : ℕ) → (hasByte seen y || member y (drop i (mapBytes pages d))) ≡ member y (mapBytes pages d))
     × (length seen ≡ 4)
 
@@ -29,7 +32,8 @@ loop-holds : tie.Need-loop-holds Inv-loop μ-loop
 loop-holds c =
     let s = c .before in
     let m = mapBytes (s .args .pages) (s .args .d .now) in
-    (omega arith, fresh-none (s .args .slots) m _ (s .pre .2), seen-none (s .args .slots) m _ (s .pre .2), s .pre .3)
+    let none : (y : ℕ) → hasByte (s .args .seen .now) y ≡ false = λ y. rw (s .pre .2) (has-none y) in
+    (omega arith, fresh-none (s .args .slots) m _ none, seen-none (s .args .slots) m _ none, s .pre .3)
 
 add-x : tie.Need-add-x Inv-loop μ-loop
 add-x c = search needs

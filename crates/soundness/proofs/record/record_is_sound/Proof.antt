@@ -83,7 +83,8 @@ entries-differ-requires c κs =
     let s = e1 .before .before .before .before in
     let head = sym (e1 .before .head-fits .ensures) ∙ not-false _ (e1 .if1 .left) in
     let few : byte (s .args .d .now) 3 ≤ 62 = head-count (s .args .d .now) head in
-    (s .pre .1, z .size .ensures .0, omega (arith, few, z .size .ensures .0))
+    let fit = sym (c .before .entries-fit .ensures) ∙ not-false _ (c .if3 .left) in
+    (s .pre .0, s .pre .1, s .pre .3, z .size .ensures .0, omega (arith, few, z .size .ensures .0), fit)
 
 -- src/record.rt:18:1
 returns-4 : tie.Need-returns-4
