@@ -52,8 +52,9 @@ pub fn insert(seen: &mut [u64; 4], x: u8) -> bool
     requires { ⌜ length (now seen) ≡ 4 ⌝ }
     ensures { λ r. ⌜ (r ≡ not (hasByte (now (seen .entry)) x)) × (now (seen .exit) ≡ withByte (now (seen .entry)) x) × (length (now (seen .exit)) ≡ 4) ⌝ }
 {
-    let i = index(x);
-    let m = mask(x);
+    let n = size(x);
+    let i = n / 64;
+    let m = number_mask(n);
     let word = seen[i];
     seen[i] = word | m;
     word & m == 0

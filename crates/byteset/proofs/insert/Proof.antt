@@ -7,11 +7,11 @@ use Rattle.byteset.specs.Set.{hasByte, withByte}
 use Rattle.byteset.proofs.insert.Statement.{statement}
 use Rattle.byteset.proofs.insert.Tie as tie
 
-index-requires : tie.Need-index-requires
-index-requires c κs = search needs
+size-requires : tie.Need-size-requires
+size-requires c κs = search needs
 
-mask-requires : tie.Need-mask-requires
-mask-requires c κs = search needs
+number-mask-requires : tie.Need-number-mask-requires
+number-mask-requires c κs = search needs
 
 mul-word : tie.Need-mul-word
 mul-word c = search needs
@@ -29,15 +29,15 @@ returns : tie.Need-returns
 unfolding hasByte withByte
 returns c =
     let m = c .before in
-    let i = m .before .index .ensures .0 in
-    (rw (i, m .mask .ensures) (sym (Bool·not-not _)), rw (i, m .mask .ensures), simp length-set (m .before .before .pre))
+    let n = m .before .size .ensures .0 in
+    (rw (m .number-mask .ensures, n) (sym (Bool·not-not _)), rw (m .number-mask .ensures, n), simp length-set (m .before .before .pre))
 
 pub insert-spec : {M : Type 1} → statement M
 insert-spec =
     tie.close
     (tie.spec
-    index-requires
-    mask-requires
+    size-requires
+    number-mask-requires
     mul-word
     element-copy-out-word
     mul-seen
