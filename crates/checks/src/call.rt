@@ -17,11 +17,12 @@ ghost use Rattle.rules.specs.Plans.{begin, openFile, commit};
 ghost use Rattle.rules.specs.Refusals.{heldByOther, tests, readTests};
 ghost use Rattle.checks.specs.Verdicts.{numberOf, clientTests, beginTests, activeTests, openTests, pageTests};
 
-// Tests 1 to 3: the volume is sound, the session fits it, and client k exists.
-fn check_client(v: &[u8], s: Session, k: u8) -> Verdict
+// Tests 1 to 3: the volume is sound, as `ok` tells; the session fits it; and client k exists.
+fn check_client(v: &[u8], ok: bool, s: Session, k: u8) -> Verdict
+    requires { ⌜ ok ≡ sound (now v) ⌝ }
     ensures { λ r. ⌜ numberOf r ≡ first (clientTests (sound (now (v .entry))) (view (now (v .entry))) s k) ⌝ }
 {
-    if !soundness::is_sound(v) {
+    if !ok {
         return Verdict::Refused(Refusal::NotSound);
     }
     if !session_fits(v, s) {
@@ -114,7 +115,8 @@ fn check_page(v: &[u8], k: u8, f: u8, p: u8) -> Verdict
 pub fn check_begin(v: &[u8], s: Session, k: u8) -> Verdict
     ensures { λ r. ⌜ numberOf r ≡ first (tests (sound (now (v .entry))) (view (now (v .entry))) s (begin k)) ⌝ }
 {
-    match check_client(v, s, k) {
+    let ok = soundness::is_sound(v);
+    match check_client(v, ok, s, k) {
         Verdict::Refused(r) => Verdict::Refused(r),
         Verdict::Accepted => check_inactive(s, k),
     }
@@ -124,7 +126,8 @@ pub fn check_begin(v: &[u8], s: Session, k: u8) -> Verdict
 pub fn check_active(v: &[u8], s: Session, k: u8) -> Verdict
     ensures { λ r. ⌜ numberOf r ≡ first (tests (sound (now (v .entry))) (view (now (v .entry))) s (commit k)) ⌝ }
 {
-    match check_client(v, s, k) {
+    let ok = soundness::is_sound(v);
+    match check_client(v, ok, s, k) {
         Verdict::Refused(r) => Verdict::Refused(r),
         Verdict::Accepted => check_running(s, k),
     }

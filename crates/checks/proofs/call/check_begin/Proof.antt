@@ -9,8 +9,11 @@ use Rattle.checks.proofs.VerdictLaws.{numbered, first-refuses, first-ac
 use Rattle.checks.proofs.call.check_begin.Statement.{statement}
 use Rattle.checks.proofs.call.check_begin.Tie as tie
 
+is-sound-requires : tie.Need-is-sound-requires
+is-sound-requires c κs = search needs
+
 check-client-requires : tie.Need-check-client-requires
-check-client-requires c κs = search needs
+check-client-requires c κs = c .is-sound .ensures
 
 enum-known-r : tie.Need-enum-known-r
 enum-known-r c = search needs
@@ -21,22 +24,22 @@ enum-told c = search needs
 check-inactive-requires : tie.Need-check-inactive-requires
 check-inactive-requires c κs =
     let q = c .before .before in
-    let s = q .before .before in
+    let s = q .before .before .before in
     client-low (s .args .v .now) (s .args .s) (s .args .k) (ap numberOf (sym (c .enum-told .given .1)) ∙ q .check-client .ensures)
 
 returns : tie.Need-returns
 unfolding tests
 returns c =
     let q = c .before .before .before in
-    let s = q .before .before in
+    let s = q .before .before .before in
     first-refuses _ (clientTests (sound (s .args .v .now)) (view (s .args .v .now)) (s .args .s) (s .args .k)) (beginTests (s .args .s) (s .args .k)) (numbered (c .before .r .given .0 .0)) (ap numberOf (sym (c .before .r .given .1)) ∙ q .check-client .ensures)
 
 returns-2 : tie.Need-returns-2
 unfolding tests
 returns-2 c =
     let q = c .before .before .before in
-    let s = q .before .before in
+    let s = q .before .before .before in
     first-accepts _ (clientTests (sound (s .args .v .now)) (view (s .args .v .now)) (s .args .s) (s .args .k)) (beginTests (s .args .s) (s .args .k)) refl (ap numberOf (sym (c .before .enum-told .given .1)) ∙ q .check-client .ensures) (c .check-inactive .ensures)
 
 pub check-begin-spec : {M : Type 1} → statement M
-check-begin-spec = tie.close (tie.spec check-client-requires enum-known-r enum-told check-inactive-requires returns returns-2)
+check-begin-spec = tie.close (tie.spec is-sound-requires check-client-requires enum-known-r enum-told check-inactive-requires returns returns-2)
