@@ -51,8 +51,8 @@ slotsDiffer es = distinct (λ e d. givesSlot (e .file) (e .slot) d) es
 unfoldable pub entriesDiffer : Bytes → Bool
 entriesDiffer d = pagesDiffer (entriesIn d) && slotsDiffer (entriesIn d)
 
--- The sector that is as many sectors after the header of entry i's file as byte o of the entry says: another one for each page
--- (o is 1) and for each slot (o is 2) of any file.
+-- The sector that byte o of entry i stands for: that many sectors after the header of the entry's file. Byte 1 is the page, byte 2
+-- the slot.
 unfoldable pub sectorFor : Bytes → Bytes → ℕ → ℕ → ℕ
 sectorFor tb d o i = headerSectorIn tb (byte d (8 + 4 * i) - 1) + byte d (8 + 4 * i + o)
 

@@ -109,8 +109,8 @@ fn entry_fits(table: &[u8], d: &[u8], i: usize) -> bool
     d[at + 3] == 0
 }
 
-// Whether no two of the n entries are for the same page or give the same slot. As many sectors after its
-// file's header as the page number, or the slot number, is a sector for each of them.
+// Whether no two of the n entries are for the same page or give the same slot. A page, or a slot, stands for
+// the sector that is its number of sectors after its file's header; no two pages share one, and no two slots.
 fn entries_differ(table: &[u8], d: &[u8], n: usize) -> bool
     requires { ⌜ (length (now table) ≡ 256) × (length (now d) ≡ 256) × (tableSound (now table) ≡ true) × (n ≡ byte (now d) 3) × (n ≤ 62) × (entriesTest (decodeTable (now table)) (now d) n ≡ true) ⌝ }
     ensures { λ r. ⌜ r ≡ entriesDiffer (now (d .entry)) ⌝ }
@@ -124,7 +124,7 @@ fn entries_differ(table: &[u8], d: &[u8], n: usize) -> bool
     sectors_differ(table, d, n, SLOT)
 }
 
-// Whether no two of these sectors are the same, by byte `o` of each of the n entries.
+// Whether byte `o` of no two of the n entries stands for the same sector.
 fn sectors_differ(table: &[u8], d: &[u8], n: usize, o: usize) -> bool
     requires { ⌜ (length (now table) ≡ 256) × (length (now d) ≡ 256) × (n ≤ 62) × (o ≤ 3) × Placed (now table) (now d) o n ⌝ }
     ensures { λ r. ⌜ r ≡ distinctBelow 1024 (sectorsFor (now (table .entry)) (now (d .entry)) o n) ⌝ }
@@ -141,7 +141,7 @@ fn sectors_differ(table: &[u8], d: &[u8], n: usize, o: usize) -> bool
     true
 }
 
-// The sector for byte `o` of entry i.
+// The sector that byte `o` of entry i stands for.
 fn sector_for(table: &[u8], d: &[u8], o: usize, i: usize) -> usize
     requires { ⌜ (length (now table) ≡ 256) × (length (now d) ≡ 256) × (i < 62) × (o ≤ 3) × (1 ≤ byte (now d) (8 + 4 * i)) × (byte (now d) (8 + 4 * i) ≤ 16) ⌝ }
     ensures { λ r. ⌜ r ≡ sectorFor (now (table .entry)) (now (d .entry)) o i ⌝ }
