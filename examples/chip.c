@@ -6,7 +6,7 @@
 
 #include "volume.h"
 
-enum { DONE = 0, CUT = 1, REFUSED = 2, SECTORS = 11, LENGTH = 256 * SECTORS };
+enum { SECTORS = 11, LENGTH = 256 * SECTORS };
 
 // In a controller this is the chip, and memcpy to a sector of it is the command that writes a sector.
 static uint8_t chip[LENGTH];
@@ -64,9 +64,9 @@ static void store_by_store(const char *name, uint64_t (*call)(uint8_t budget)) {
         memcpy(work, start, LENGTH);
         reply = call(++budget);
         write_to_chip();
-    } while (VOL_KIND(reply) == CUT);
+    } while (VOL_KIND(reply) == VOL_CUT);
     session = VOL_SESSION(reply);
-    printf(", %s %u\n", VOL_KIND(reply) == DONE ? "done" : "refused", VOL_NUMBER(reply));
+    printf(", %s %u\n", VOL_KIND(reply) == VOL_DONE ? "done" : "refused", VOL_NUMBER(reply));
 }
 
 int main(void) {

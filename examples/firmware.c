@@ -2,11 +2,9 @@
 // supply fails after 0, 1, 2 .. stores of it. After each start the two belong together: both are old, or both are new.
 #include <stdio.h>
 #include <stdlib.h>
-#include <string.h>
 
 #include "volume.h"
 
-enum { DONE = 0, CUT = 1, REFUSED = 2, SECTOR = 3 };
 enum { CLIENT = 1, CARD = 1, FLASK = 2, PAGE = 0 };
 // Begin 1, two opens 2, two writes 4, commit 4: the whole loading, and its stores up to the one that decides.
 enum { WHOLE = 11, DECIDING = 8 };
@@ -28,13 +26,13 @@ static uint8_t budget(void) {
 
 // Takes a reply; answers whether the call was done. A refusal is a mistake in this program.
 static int done(uint64_t reply) {
-    if (VOL_KIND(reply) == REFUSED) {
+    if (VOL_KIND(reply) == VOL_REFUSED) {
         printf("refused %u\n", VOL_NUMBER(reply));
         exit(1);
     }
     session = VOL_SESSION(reply);
     supply -= VOL_NUMBER(reply);
-    return VOL_KIND(reply) == DONE;
+    return VOL_KIND(reply) == VOL_DONE;
 }
 
 static int write_number(uint8_t file, uint8_t number) {
@@ -45,7 +43,7 @@ static int write_number(uint8_t file, uint8_t number) {
 
 static unsigned read_number(uint8_t file) {
     uint64_t reply = vol_read(chip, sizeof chip, session, CLIENT, file, PAGE);
-    if (VOL_KIND(reply) != SECTOR) done(reply);
+    if (VOL_KIND(reply) != VOL_SECTOR) done(reply);
     return chip[256 * VOL_NUMBER(reply)];
 }
 
@@ -68,7 +66,8 @@ static void list(void) {
     fwrite(text, 1, (size_t)length, stdout);
 }
 
-// What a controller does when the supply comes back. A chip that was never formatted isn't sound.
+// What a controller does when the supply comes back. A chip that was never formatted isn't sound; nor is one that was
+// damaged, so a real controller asks before it formats.
 static void start(void) {
     session = 0;
     supply = 1000;

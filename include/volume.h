@@ -15,7 +15,7 @@
 // Refusals:
 //    1  the array is not a sound volume           9  the file has no such page
 //    2  the session doesn't fit the volume       10  a page takes 256 bytes, no more and no fewer
-//    3  there is no such client                  11  the file has no slot left for a new page
+//    3  there is no such client                  11  the file has no spare sector for a new page
 //    4  the client has a transaction running     12  the client's record is full (62 pages)
 //    5  the client has no transaction running    13  the length is not 256 * N, N at most 1,024
 //    6  there is no such file                    14  the number of clients or the shape is out of range
@@ -31,6 +31,9 @@
 extern "C" {
 #endif
 
+// The kinds of a reply.
+enum { VOL_DONE = 0, VOL_CUT = 1, VOL_REFUSED = 2, VOL_SECTOR = 3 };
+
 // The parts of a reply.
 #define VOL_KIND(reply) ((unsigned)((reply) & 255))
 #define VOL_SESSION(reply) ((uint8_t)((reply) >> 8 & 255))
@@ -42,7 +45,7 @@ extern "C" {
 // Formats the array for `clients` clients (1 to 4) and 1 to 16 files.
 // `shape` has two bytes for each file: its pages (1 to 120), then the sectors for them (at least its pages, at most 240).
 // Reply: done, with session 0 and number 0.
-// Refused by 13, 14, 15; the array is then as it was.
+// Refused by 13, 14, 15; the array is then as it was. A crash during format isn't covered: format again.
 uint64_t vol_format(uint8_t *volume, size_t len, uint8_t clients, const uint8_t *shape, size_t shape_len);
 
 // Whether the array is a sound volume: 1 or 0, and no kind, session or number.
@@ -77,13 +80,13 @@ uint64_t vol_write(uint8_t *volume, size_t len, uint8_t session, uint8_t client,
 
 // Ends the client's transaction: its pages become the files' content, all of them or none. It gives its files back.
 // Reply: done with the session that no longer marks the client; cut; or refused.
-// Cut with number 0, nothing is kept; cut with 1 or more, everything is: the next begin or open does the rest.
+// Cut with number 0, nothing is kept; cut with 1 or more, everything is: its next begin, or an open of its files, does the rest.
 // Refused by 1, 2, 3, 5.
 uint64_t vol_commit(uint8_t *volume, size_t len, uint8_t session, uint8_t client, uint8_t budget);
 
 // Ends the client's transaction: its pages are dropped, and it gives its files back.
 // Reply: done with the session that no longer marks the client; cut; or refused.
-// Cut, the pages are dropped as well: the next begin or open does the rest.
+// Cut, the pages are dropped as well: its next begin, or an open of its files, does the rest.
 // Refused by 1, 2, 3, 5.
 uint64_t vol_abort(uint8_t *volume, size_t len, uint8_t session, uint8_t client, uint8_t budget);
 

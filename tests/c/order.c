@@ -44,7 +44,7 @@ static struct call abort_(uint8_t session, uint8_t client) {
 
 static void format(size_t bytes, uint8_t clients, const uint8_t *shape, size_t count) {
     length = bytes;
-    if (VOL_KIND(vol_format(volume, length, clients, shape, count)) != DONE) failed = 1;
+    if (VOL_KIND(vol_format(volume, length, clients, shape, count)) != VOL_DONE) failed = 1;
 }
 
 static void keep(void) {
@@ -101,30 +101,30 @@ static void recover_decided_record(void) {
 
 // Reads, tests, listings and refused calls write nothing, and open of a file that the client holds neither.
 static void no_stores(void) {
-    stores_nothing("read", (struct call){READ, 1, 1, 1, 0, 0, 0}, SECTOR, 6);
-    stores_nothing("is_sound", (struct call){.what = IS_SOUND}, DONE, 1);
-    stores_nothing("list", (struct call){.what = LIST}, DONE, 1);
-    stores_nothing("open of a held file", open(1, 1, 1), DONE, 0);
-    stores_nothing("begin, refused", begin(16, 1), REFUSED, 2);
-    stores_nothing("begin, refused", begin(1, 3), REFUSED, 3);
-    stores_nothing("begin, refused", begin(1, 1), REFUSED, 4);
-    stores_nothing("commit, refused", commit(1, 2), REFUSED, 5);
-    stores_nothing("abort, refused", abort_(0, 1), REFUSED, 5);
-    stores_nothing("open, refused", open(1, 1, 3), REFUSED, 6);
-    stores_nothing("write, refused", write(1, 1, 1, 2, 40), REFUSED, 9);
-    stores_nothing("write, refused", (struct call){WRITE, 1, 1, 1, 1, 40, 255}, REFUSED, 10);
-    stores_nothing("write, refused", write(1, 1, 1, 1, 40), REFUSED, 11);
-    stores_nothing("read, refused", (struct call){READ, 0, 1, 1, 0, 0, 0}, REFUSED, 5);
-    stores_nothing("format, refused", (struct call){.what = FORMAT, .fill = 1, .count = 300}, REFUSED, 13);
-    stores_nothing("format, refused", (struct call){.what = FORMAT, .fill = 0, .count = 2816}, REFUSED, 14);
-    stores_nothing("format, refused", (struct call){.what = FORMAT, .fill = 1, .count = 512}, REFUSED, 15);
+    stores_nothing("read", (struct call){READ, 1, 1, 1, 0, 0, 0}, VOL_SECTOR, 6);
+    stores_nothing("is_sound", (struct call){.what = IS_SOUND}, VOL_DONE, 1);
+    stores_nothing("list", (struct call){.what = LIST}, VOL_DONE, 1);
+    stores_nothing("open of a held file", open(1, 1, 1), VOL_DONE, 0);
+    stores_nothing("begin, refused", begin(16, 1), VOL_REFUSED, 2);
+    stores_nothing("begin, refused", begin(1, 3), VOL_REFUSED, 3);
+    stores_nothing("begin, refused", begin(1, 1), VOL_REFUSED, 4);
+    stores_nothing("commit, refused", commit(1, 2), VOL_REFUSED, 5);
+    stores_nothing("abort, refused", abort_(0, 1), VOL_REFUSED, 5);
+    stores_nothing("open, refused", open(1, 1, 3), VOL_REFUSED, 6);
+    stores_nothing("write, refused", write(1, 1, 1, 2, 40), VOL_REFUSED, 9);
+    stores_nothing("write, refused", (struct call){WRITE, 1, 1, 1, 1, 40, 255}, VOL_REFUSED, 10);
+    stores_nothing("write, refused", write(1, 1, 1, 1, 40), VOL_REFUSED, 11);
+    stores_nothing("read, refused", (struct call){READ, 0, 1, 1, 0, 0, 0}, VOL_REFUSED, 5);
+    stores_nothing("format, refused", (struct call){.what = FORMAT, .fill = 1, .count = 300}, VOL_REFUSED, 13);
+    stores_nothing("format, refused", (struct call){.what = FORMAT, .fill = 0, .count = 2816}, VOL_REFUSED, 14);
+    stores_nothing("format, refused", (struct call){.what = FORMAT, .fill = 1, .count = 512}, VOL_REFUSED, 15);
     vol_begin(volume, length, 1, 2, 255);
-    stores_nothing("open, refused", open(3, 2, 1), REFUSED, 7);
-    stores_nothing("write, refused", write(3, 2, 1, 0, 40), REFUSED, 8);
+    stores_nothing("open, refused", open(3, 2, 1), VOL_REFUSED, 7);
+    stores_nothing("write, refused", write(3, 2, 1, 0, 40), VOL_REFUSED, 8);
     volume[0] = 0;
-    stores_nothing("commit, refused", commit(1, 1), REFUSED, 1);
-    stores_nothing("is_sound, no", (struct call){.what = IS_SOUND}, DONE, 0);
-    stores_nothing("list, refused", (struct call){.what = LIST}, DONE, 0);
+    stores_nothing("commit, refused", commit(1, 1), VOL_REFUSED, 1);
+    stores_nothing("is_sound, no", (struct call){.what = IS_SOUND}, VOL_DONE, 0);
+    stores_nothing("list, refused", (struct call){.what = LIST}, VOL_DONE, 0);
     back();
 }
 
@@ -162,7 +162,7 @@ static void sixteen_files(void) {
 static void full_record(void) {
     uint8_t bytes[256] = {0};
     for (uint8_t page = 1; page <= 46; page++) vol_write(volume, length, 8, 4, 1, page, bytes, sizeof bytes, 255);
-    stores_nothing("write, refused", write(8, 4, 1, 47, 40), REFUSED, 12);
+    stores_nothing("write, refused", write(8, 4, 1, 47, 40), VOL_REFUSED, 12);
     back();
 }
 

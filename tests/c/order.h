@@ -8,7 +8,6 @@
 
 // The room has whole memory pages.
 enum { LENGTH = 77312, ROOM = 77824, MOST_STORES = 18 };
-enum { DONE = 0, CUT = 1, REFUSED = 2, SECTOR = 3 };
 
 enum what { BEGIN, OPEN, WRITE, COMMIT, ABORT, READ, FORMAT, IS_SOUND, LIST };
 

@@ -48,7 +48,7 @@ static void note_store(const char *name, int sector, uint8_t *bytes) {
 
 static void play_stores(const char *name, struct call call, const struct store *list, int budget, int count) {
     int made = budget < count ? budget : count;
-    play(name, call, budget, budget < count ? CUT : DONE, (unsigned)made);
+    play(name, call, budget, budget < count ? VOL_CUT : VOL_DONE, (unsigned)made);
     if (!planning) return;
     if (made == budget && made > 0) note_store(name, list[made - 1].sector, changed[made - 1]);
     for (int i = 0; i < made; i++) print_store(&list[i], changed[i]);

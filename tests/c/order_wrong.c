@@ -24,7 +24,7 @@ static void bring(uint8_t *volume, int from, int bytes) {
 }
 
 static void bring_all(uint8_t *volume, uint64_t reply) {
-    if (WRONG == 6 && VOL_KIND(reply) == 2) memcpy(volume, copy, 1);
+    if (WRONG == 6 && VOL_KIND(reply) == VOL_REFUSED) memcpy(volume, copy, 1);
     for (int s = 0; s < SECTORS && WRONG == 4; s++) bring(volume, 256 * s, 4);
     for (int s = 0; s < SECTORS; s++) bring(volume, 256 * (WRONG == 1 ? SECTORS - 1 - s : s), 256);
 }

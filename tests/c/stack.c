@@ -10,7 +10,6 @@
 enum { LIMIT = 1024, ROOM = 65536, LENGTH = 262144, FILES = 16, LAST = 16, ENTRIES = 62 };
 // The files end before sector 821. The last one's map names its first 120 slots of 240, so that new pages go behind them.
 enum { LAST_SECTOR = 821 - 240 + 120 + ENTRIES - 1 };
-enum { DONE = 0, CUT = 1, REFUSED = 2, SECTOR = 3 };
 
 uint64_t on_stack(void *fn, void *top, const uint64_t *args);
 
@@ -76,20 +75,20 @@ int main(void) {
     uint64_t v = (uint64_t)volume;
     for (int i = 0; i < 256; i++) page[i] = (uint8_t)(255 - i);
 
-    report("vol_format", reply(DONE, 0, 0), (void *)vol_format, v, LENGTH, 4, (uint64_t)shape, sizeof shape, 0);
+    report("vol_format", reply(VOL_DONE, 0, 0), (void *)vol_format, v, LENGTH, 4, (uint64_t)shape, sizeof shape, 0);
     report("vol_is_sound", 1, (void *)vol_is_sound, v, LENGTH, 0, 0, 0, 0);
-    report("vol_begin", reply(DONE, 8, 1), (void *)vol_begin, v, LENGTH, 0, 4, 255, 0);
-    for (uint8_t f = 1; f < LAST; f++) expect("vol_open", vol_open(volume, LENGTH, 8, 4, f, 255), reply(DONE, 8, 1));
-    report("vol_open", reply(DONE, 8, 1), (void *)vol_open, v, LENGTH, 8, 4, LAST, 255);
+    report("vol_begin", reply(VOL_DONE, 8, 1), (void *)vol_begin, v, LENGTH, 0, 4, 255, 0);
+    for (uint8_t f = 1; f < LAST; f++) expect("vol_open", vol_open(volume, LENGTH, 8, 4, f, 255), reply(VOL_DONE, 8, 1));
+    report("vol_open", reply(VOL_DONE, 8, 1), (void *)vol_open, v, LENGTH, 8, 4, LAST, 255);
 
     // Client 4 holds every file, and its record gets as many entries as it can have.
     for (uint8_t p = 0; p < ENTRIES - 1; p++)
-        expect("vol_write", vol_write(volume, LENGTH, 8, 4, LAST, p, page, 256, 255), reply(DONE, 8, 2));
-    report_write("vol_write, the last entry", reply(DONE, 8, 2), ENTRIES - 1, 256);
-    report_write("vol_write, the same page again", reply(DONE, 8, 1), ENTRIES - 1, 256);
-    report_write("vol_write, refused: record full", reply(REFUSED, 8, 12), ENTRIES, 256);
-    report_write("vol_write, refused: page length", reply(REFUSED, 8, 10), ENTRIES, 255);
-    report("vol_read", reply(SECTOR, 0, LAST_SECTOR), (void *)vol_read, v, LENGTH, 8, 4, LAST, ENTRIES - 1);
+        expect("vol_write", vol_write(volume, LENGTH, 8, 4, LAST, p, page, 256, 255), reply(VOL_DONE, 8, 2));
+    report_write("vol_write, the last entry", reply(VOL_DONE, 8, 2), ENTRIES - 1, 256);
+    report_write("vol_write, the same page again", reply(VOL_DONE, 8, 1), ENTRIES - 1, 256);
+    report_write("vol_write, refused: record full", reply(VOL_REFUSED, 8, 12), ENTRIES, 256);
+    report_write("vol_write, refused: page length", reply(VOL_REFUSED, 8, 10), ENTRIES, 255);
+    report("vol_read", reply(VOL_SECTOR, 0, LAST_SECTOR), (void *)vol_read, v, LENGTH, 8, 4, LAST, ENTRIES - 1);
     if (memcmp(volume + 256 * LAST_SECTOR, page, 256) != 0) {
         printf("stack: the page read is not the page written\n");
         failed = 1;
@@ -101,19 +100,19 @@ int main(void) {
         failed = 1;
     }
     memcpy(written, volume, LENGTH);
-    report("vol_commit", reply(DONE, 0, FILES + 2), (void *)vol_commit, v, LENGTH, 8, 4, 255, 0);
+    report("vol_commit", reply(VOL_DONE, 0, FILES + 2), (void *)vol_commit, v, LENGTH, 8, 4, 255, 0);
     memcpy(volume, written, LENGTH);
-    report("vol_abort", reply(DONE, 0, FILES + 1), (void *)vol_abort, v, LENGTH, 8, 4, 255, 0);
+    report("vol_abort", reply(VOL_DONE, 0, FILES + 1), (void *)vol_abort, v, LENGTH, 8, 4, 255, 0);
 
     // A commit that is cut after its first store: the next call recovers it, in all sixteen files.
     memcpy(volume, written, LENGTH);
-    report("vol_commit, cut", reply(CUT, 0, 1), (void *)vol_commit, v, LENGTH, 8, 4, 1, 0);
+    report("vol_commit, cut", reply(VOL_CUT, 0, 1), (void *)vol_commit, v, LENGTH, 8, 4, 1, 0);
     memcpy(written, volume, LENGTH);
-    report("vol_begin, with a recovery", reply(DONE, 8, FILES + 2), (void *)vol_begin, v, LENGTH, 0, 4, 255, 0);
+    report("vol_begin, with a recovery", reply(VOL_DONE, 8, FILES + 2), (void *)vol_begin, v, LENGTH, 0, 4, 255, 0);
     memcpy(volume, written, LENGTH);
-    expect("vol_begin", vol_begin(volume, LENGTH, 0, 1, 255), reply(DONE, 1, 1));
-    report("vol_open, with a recovery", reply(DONE, 1, FILES + 2), (void *)vol_open, v, LENGTH, 1, 1, LAST, 255);
-    report("vol_begin, refused: no session", reply(REFUSED, 16, 2), (void *)vol_begin, v, LENGTH, 16, 2, 255, 0);
+    expect("vol_begin", vol_begin(volume, LENGTH, 0, 1, 255), reply(VOL_DONE, 1, 1));
+    report("vol_open, with a recovery", reply(VOL_DONE, 1, FILES + 2), (void *)vol_open, v, LENGTH, 1, 1, LAST, 255);
+    report("vol_begin, refused: no session", reply(VOL_REFUSED, 16, 2), (void *)vol_begin, v, LENGTH, 16, 2, 255, 0);
     expect("vol_is_sound", vol_is_sound(volume, LENGTH), 1);
     printf("stack: the highest is %zu bytes, %d are allowed\n", highest, LIMIT);
     return failed;

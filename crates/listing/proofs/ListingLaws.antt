@@ -19,11 +19,10 @@ use Rattle.volume.specs.Lawful.{headerFits, holderFits, lawful}
 use Rattle.volume.specs.Volumes.{view}
 use Rattle.volume.specs.Sound.{sound}
 use Rattle.volume.specs.Known.{Known}
-use Rattle.volume.specs.Listing.{stateWord, lines, listing}
+use Rattle.volume.specs.Listing.{stateWord, lines, listing, clientLineOf, clientLines, fileLineOf, fileLines}
 use Rattle.volume.proofs.KnownLaws.{sound-known}
 use Rattle.listing.specs.declared.ListOutcome.{ListOutcome}
 use Rattle.listing.specs.Writes.{Wrote}
-use Rattle.listing.specs.Lines.{clientLineOf, clientLines, fileLineOf, fileLines}
 use Rattle.listing.specs.Listed.{Listed, listed}
 use Rattle.listing.proofs.WritesLaws.{one-digit, below-100, any-number, wrote-more}
 use Rattle.listing.proofs.LinesLaws.{client-length, file-length}

@@ -12,8 +12,8 @@ use Rattle.sector.specs.Sectors.{Volume}
 use Rattle.volume.specs.Volumes.{view}
 use Rattle.volume.specs.Sound.{sound}
 use Rattle.volume.specs.Listing.{listing, printed, tooLongText, notSoundText}
-use Rattle.listing.specs.Writes.{Wrote}
-use Rattle.listing.specs.Listed.{ToPrint, toPrint}
+use Rattle.listing.specs.Writes.{Wrote, ToPrint}
+use Rattle.listing.specs.Listed.{toPrint}
 
 -- Which text it is.
 module _ (v : Volume) where

@@ -10,10 +10,9 @@ use Rattle.sector.specs.Decoding.{headerSectorIn, fileIn, holderIn}
 use Rattle.volume.specs.Places.{fileAt, headerSector}
 use Rattle.volume.specs.Volumes.{view}
 use Rattle.volume.specs.Known.{Known}
-use Rattle.volume.specs.Listing.{fileLine}
+use Rattle.volume.specs.Listing.{fileLine, fileLineOf}
 use Rattle.volume.proofs.PlaceLaws.{IsFile}
 use Rattle.volume.proofs.ReadLaws.{few-headers, header-inside, file-in, header-sector-in, holder-in}
-use Rattle.listing.specs.Lines.{fileLineOf}
 use Rattle.listing.proofs.LinesLaws.{file-parts}
 
 module _ (v : Volume) (known : Known v) (f : ℕ) (lo : 1 ≤ f) (hi : f ≤ length (view v .table .files)) where

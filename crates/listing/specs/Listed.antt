@@ -1,8 +1,6 @@
 -- What a listing answers, and the bytes it is given afterwards.
-use mathlib.Core.List.{_++_}
-use Prim.Native.Nat.{ℕ}
 use lib.Dec.{ltb}
-use lib.ListN.{length, drop}
+use lib.ListN.{length}
 use Rattle.sector.specs.Lists.{if_then_else_}
 use Rattle.sector.specs.Contents.{Bytes}
 use Rattle.sector.specs.Sectors.{Volume}
@@ -10,15 +8,16 @@ use Rattle.volume.specs.Volumes.{view}
 use Rattle.volume.specs.Sound.{sound}
 use Rattle.volume.specs.Listing.{listing, printed}
 use Rattle.listing.specs.declared.ListOutcome.{ListOutcome}
+use Rattle.listing.specs.Writes.{atFront, ToPrint, textFirst, nothingFirst}
 
 -- The outcome, and the bytes.
 pub record Listed : Type 0 where
   pub outcome : ListOutcome
   pub out : Bytes
 
--- The text stands at the front, and what is behind it is as it was.
+-- The text is written at the front.
 abbrev pub withText : Bytes → Bytes → Listed
-withText text out = record { outcome = ListOutcome.Listed (length text); out = text ++ drop (length text) out }
+withText text out = record { outcome = ListOutcome.Listed (length text); out = atFront text out }
 
 -- The text of a sound volume is written; without room for the longest one, or if the volume isn't sound, nothing is.
 unfoldable pub listed : Volume → Bytes → Listed
@@ -27,13 +26,6 @@ listed v out =
     else if sound v then withText (listing (view v)) out
     else record { outcome = ListOutcome.NotSound; out = out }
 
--- How many bytes are to be printed, and the bytes that have them at the front.
-pub record ToPrint : Type 0 where
-  pub count : ℕ
-  pub out : Bytes
-
 -- The text of the listing program stands at the front; without room for the longest one, nothing is written.
 unfoldable pub toPrint : Volume → Bytes → ToPrint
-toPrint v out =
-    if ltb (length out) 664 then record { count = 0; out = out }
-    else record { count = length (printed v); out = printed v ++ drop (length (printed v)) out }
+toPrint v out = if ltb (length out) 664 then nothingFirst out else textFirst (printed v) out

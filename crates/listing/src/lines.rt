@@ -19,9 +19,8 @@ ghost use lib.ListN.{length};
 ghost use Rattle.sector.specs.Decoding.{decodeRecord};
 ghost use Rattle.volume.specs.Volumes.{view};
 ghost use Rattle.volume.specs.Known.{Known};
-ghost use Rattle.volume.specs.Listing.{clientLine, fileLine};
+ghost use Rattle.volume.specs.Listing.{clientLine, fileLine, clientLineOf, clientLines, fileLineOf, fileLines};
 ghost use Rattle.listing.specs.Writes.{Wrote};
-ghost use Rattle.listing.specs.Lines.{clientLineOf, clientLines, fileLineOf, fileLines};
 
 // The line of client k, whose intentions record this is.
 fn client_line(out: &mut [u8], at: usize, k: u8, rec: &[u8]) -> usize

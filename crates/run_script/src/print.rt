@@ -63,7 +63,7 @@ pub fn put_read(o: ReadOutcome, page: &[u8]) {
 
 // What the listing program prints for the volume.
 pub fn put_list(v: &[u8]) {
-    let mut text = [0u8; 664];
+    let mut text = [0u8; listing::Listing::ROOM];
     let n = listing::print(v, &mut text);
     io::write_all(1, &text[..n]);
 }

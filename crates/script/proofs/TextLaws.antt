@@ -10,7 +10,8 @@ use lib.ListN.{length, take, drop, getD, set, length-take, drop-of-length-le}
 use lib.Seq.{sets, sets-eq, length-sets}
 use Rattle.sector.specs.Contents.{Bytes}
 use Rattle.sector.proofs.TestLaws.{drop-next}
-use Rattle.script.specs.Texts.{hexDigit, hexText, InHex, inHex}
+use Rattle.listing.specs.Writes.{ToPrint}
+use Rattle.script.specs.Texts.{hexDigit, hexText, inHex}
 
 pub hex-length : (l : Bytes) → length (hexText l) ≡ 2 * length l
 unfolding hexText
@@ -31,16 +32,16 @@ module _ (l o : Bytes) (i : ℕ) where
   unfolding hexText
   hex-done h = rw (drop-of-length-le l h)
 
-pub no-hex : (l o : Bytes) → length o / 2 < length l → _≡_ {A = InHex} (record { count = 0; out = o }) (inHex l o)
+pub no-hex : (l o : Bytes) → length o / 2 < length l → _≡_ {A = ToPrint} (record { count = 0; out = o }) (inHex l o)
 unfolding inHex
 no-hex l o h = rw (lt-ltb _ _ h)
 
 pub in-hex : (l o p : Bytes) → length l ≤ length o / 2 → p ≡ sets o 0 (hexText l)
-    → _≡_ {A = InHex} (record { count = 2 * length l; out = p }) (inHex l o)
+    → _≡_ {A = ToPrint} (record { count = 2 * length l; out = p }) (inHex l o)
 unfolding inHex
 in-hex l o p h e =
     let fits : 0 + length (hexText l) ≤ length o = omega (arith, hex-length l) in
-    rw (le-ltb _ _ h, e, sets-eq (hexText l) o 0 fits, zero-add (length (hexText l)), hex-length l)
+    rw (le-ltb _ _ h, e, sets-eq (hexText l) o 0 fits, zero-add (length (hexText l)), ← hex-length l)
 
 pub hex-fits : (l o p : Bytes) → length l ≤ length o / 2 → p ≡ sets o 0 (hexText l)
     → (2 * length l ≤ length p) × (2 * length l ≡ length (take (2 * length l) p))

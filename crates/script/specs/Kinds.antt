@@ -53,7 +53,7 @@ dumpWord = 0x64 ∷ 0x75 ∷ 0x6D ∷ 0x70 ∷ []
 abbrev pub listWord : Bytes
 listWord = 0x6C ∷ 0x69 ∷ 0x73 ∷ 0x74 ∷ []
 
--- What a line of none of the words of the calls asks for.
+-- What a line asks for whose word is no call's.
 unfoldable pub otherKind : Bytes → Kind
 otherKind l =
     if hasWord formatWord l then Kind.Format
@@ -74,7 +74,9 @@ wordKind l =
     else if hasWord readWord l then Kind.Read
     else otherKind l
 
--- The least and the most arguments of a line, and the largest that its first and its fifth may be; any other is a byte.
+-- The least and the most arguments of a line, and the largest that its first and its fifth may be; any other is a byte. Nothing
+-- has the form of Unknown. An address and a sector are at most those of the longest volume; whether they are in this one is
+-- tested where they are used.
 abbrev pub formOf : Kind → Form
 formOf Kind.Format = record { least = 2; most = 66; first = 262400; fifth = 255 }
 formOf Kind.Begin = record { least = 1; most = 2; first = 255; fifth = 255 }

@@ -9,7 +9,7 @@ ghost use Prim.Native.Nat.{_≤_};
 ghost use Rattle.script.specs.Kinds.{otherKind, wordKind, formOf, limit, argumentsFit, kindOf};
 ghost use Rattle.script.specs.Kinds;
 
-// What a line of none of the words of the calls asks for.
+// What a line asks for whose word is no call's.
 fn other_kind(line: &[u8]) -> Kind
     ensures { λ r. ⌜ r ≡ otherKind (now (line .entry)) ⌝ }
 {

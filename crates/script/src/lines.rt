@@ -1,4 +1,4 @@
-// The calls that lines stand for, by their arguments. Each is the call's own definition of these arguments.
+// The calls that lines stand for. Each contract says that it is the definition's call of the line's arguments.
 use crate::fields::argument;
 use crate::fields::arguments;
 use interface::FormatOutcome;

@@ -1,6 +1,6 @@
 /* A plain stand-in for the C library, to try the test driver with.
  *
- * Built as it is, it keeps the rules. With -DMISSTEP=n it makes the n-th
+ * It keeps the rules. With MISSTEP=n in the environment it makes the n-th
  * mistake, which the driver must find:
  *   1 recovery makes the record idle before the headers
  *   2 open recovers only the opened file and idles the record
@@ -21,11 +21,19 @@
  */
 #include <stddef.h>
 #include <stdint.h>
+#include <stdlib.h>
 #include <string.h>
 
-#ifndef MISSTEP
-#define MISSTEP 0
-#endif
+static int misstep(void)
+{
+	static int number = -1;
+	const char *text = number < 0 ? getenv("MISSTEP") : NULL;
+	if (number < 0)
+		number = text ? atoi(text) : 0;
+	return number;
+}
+
+#define MISSTEP misstep()
 
 enum { DONE, CUT, REFUSED, SECTOR };
 

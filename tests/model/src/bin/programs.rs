@@ -11,7 +11,7 @@ use std::{env, thread};
 use model::engine::Engine;
 use model::random::Random;
 use model::script::{listing, run, MAX_INPUT};
-use model::volume;
+use model::volume::{self, Session};
 
 fn main() -> ExitCode {
     let words: Vec<String> = env::args().collect();
@@ -73,7 +73,7 @@ fn listed(volume: &[u8]) -> Vec<u8> {
 
 // -------------------------------------------------------------- the scripts
 
-/// Scripts of some thirty lines, and each ending of the longest that there is.
+/// Scripts of up to forty lines, and scripts of 65,535 to 65,537 bytes.
 fn scripts(random: &mut Random, count: usize) -> impl Iterator<Item = Vec<u8>> + '_ {
     let longest = [MAX_INPUT - 1, MAX_INPUT, MAX_INPUT + 1].map(|length| {
         let mut script = vec![b'#'; length];
@@ -151,12 +151,16 @@ fn damage(random: &mut Random, text: &mut Vec<u8>) {
 
 // -------------------------------------------------------------- the volumes
 
-/// Formatted volumes, half of them damaged in a control sector, and every
-/// length around the longest that is listed.
+/// Volumes in use, half of them damaged in a control sector, and volumes of
+/// eight lengths around 0 and around the longest that is listed.
 fn volumes(random: &mut Random, count: usize) -> impl Iterator<Item = Vec<u8>> + '_ {
-    let around = [0, 1, 255, 256, MAX_INPUT - 256, MAX_INPUT, MAX_INPUT + 1, MAX_INPUT + 256].map(formatted);
+    let around = [0, 1, 255, 256, MAX_INPUT - 256, MAX_INPUT, MAX_INPUT + 1, MAX_INPUT + 256].map(|length| {
+        let mut volume = vec![0; length];
+        let _ = volume::format(&mut volume, 2, &[1, 1, 1, 1]);
+        volume
+    });
     around.into_iter().chain((0..count).map(|_| {
-        let mut volume = formatted(256 * (6 + random.below(300)));
+        let mut volume = in_use(random);
         if random.chance(50) {
             let place = random.below(volume.len().min(1024));
             volume[place] = random.byte();
@@ -165,9 +169,35 @@ fn volumes(random: &mut Random, count: usize) -> impl Iterator<Item = Vec<u8>> +
     }))
 }
 
-/// A new volume of this length, or zeros if there is none.
-fn formatted(length: usize) -> Vec<u8> {
-    let mut volume = vec![0; length];
-    let _ = volume::format(&mut volume, 2, &[1, 1, 1, 1]);
+/// A volume of a random shape, after some calls of its clients.
+fn in_use(random: &mut Random) -> Vec<u8> {
+    let clients = random.between(1, 4);
+    let files = random.between(1, 16);
+    let shape: Vec<u8> = (0..files).flat_map(|_| pages_and_slots(random)).collect();
+    let needed = 1 + usize::from(clients) + shape.chunks(2).map(|file| 1 + usize::from(file[1])).sum::<usize>();
+    let mut volume = vec![0; 256 * (needed + random.below(3))];
+    let _ = volume::format(&mut volume, clients, &shape);
+    let mut session = Session::new();
+    for _ in 0..random.below(30) {
+        session = call(random, &mut volume, session, clients, files);
+    }
     volume
+}
+
+fn pages_and_slots(random: &mut Random) -> [u8; 2] {
+    let pages = random.between(1, 15);
+    [pages, pages + random.between(0, 15)]
+}
+
+/// One call, cut now and then; the session that it hands back.
+fn call(random: &mut Random, volume: &mut [u8], session: Session, clients: u8, files: u8) -> Session {
+    let (client, file, page) = (random.between(1, clients), random.between(1, files), random.below(4) as u8);
+    let budget = if random.chance(10) { random.between(0, 3) } else { 255 };
+    let (session, _) = match random.below(8) {
+        0 => volume::begin(volume, session, client, budget),
+        1..4 => volume::open(volume, session, client, file, budget),
+        4..7 => volume::write(volume, session, client, file, page, &[7; 256], budget),
+        _ => volume::commit(volume, session, client, budget),
+    };
+    session
 }

@@ -4,9 +4,9 @@ use Prim.Native.Nat.{_+_, _-_, _≤_}
 use native.Mathlib.Omega.{arith}
 use borrow.Author.Needs.{needs}
 use Rattle.volume.specs.Volumes.{view}
+use Rattle.volume.specs.Listing.{clientLineOf}
 use Rattle.listing.proofs.LinesLaws.{Writing, writing-starts, writing-room, writing-turn, writing-ends}
 use Rattle.volume.proofs.ReadLaws.{few-clients, table-inside, clients-in}
-use Rattle.listing.specs.Lines.{clientLineOf}
 use Rattle.listing.proofs.lines.list_clients.Statement.{statement}
 use Rattle.listing.proofs.lines.list_clients.Tie as tie
 

@@ -5,9 +5,9 @@ use native.Mathlib.Omega.{arith}
 use borrow.Author.Needs.{needs}
 use lib.ListN.{length}
 use Rattle.volume.specs.Volumes.{view}
+use Rattle.volume.specs.Listing.{fileLineOf}
 use Rattle.listing.proofs.LinesLaws.{Writing, writing-starts, writing-room, writing-turn, writing-ends}
 use Rattle.volume.proofs.ReadLaws.{few-files, table-inside, files-in}
-use Rattle.listing.specs.Lines.{fileLineOf}
 use Rattle.listing.proofs.lines.list_files.Statement.{statement}
 use Rattle.listing.proofs.lines.list_files.Tie as tie
 
