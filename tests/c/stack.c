@@ -71,41 +71,43 @@ static void report_write(const char *name, uint64_t expected, uint8_t number, si
     report(name, expected, (void *)write_by, (uint64_t)&w, 0, 0, 0, 0, 0);
 }
 
-int main(void) {
-    uint64_t v = (uint64_t)volume;
-    for (int i = 0; i < 256; i++) page[i] = (uint8_t)(255 - i);
-
+// Client 4 opens every file.
+static void begin_and_open(uint64_t v) {
     report("vol_format", reply(VOL_DONE, 0, 0), (void *)vol_format, v, LENGTH, 4, (uint64_t)shape, sizeof shape, 0);
     report("vol_is_sound", 1, (void *)vol_is_sound, v, LENGTH, 0, 0, 0, 0);
     report("vol_begin", reply(VOL_DONE, 8, 1), (void *)vol_begin, v, LENGTH, 0, 4, 255, 0);
     for (uint8_t f = 1; f < LAST; f++) expect("vol_open", vol_open(volume, LENGTH, 8, 4, f, 255), reply(VOL_DONE, 8, 1));
     report("vol_open", reply(VOL_DONE, 8, 1), (void *)vol_open, v, LENGTH, 8, 4, LAST, 255);
+}
 
-    // Client 4 holds every file, and its record gets as many entries as it can have.
+// Its record gets as many entries as it can have.
+static void write_pages(void) {
     for (uint8_t p = 0; p < ENTRIES - 1; p++)
         expect("vol_write", vol_write(volume, LENGTH, 8, 4, LAST, p, page, 256, 255), reply(VOL_DONE, 8, 2));
     report_write("vol_write, the last entry", reply(VOL_DONE, 8, 2), ENTRIES - 1, 256);
     report_write("vol_write, the same page again", reply(VOL_DONE, 8, 1), ENTRIES - 1, 256);
     report_write("vol_write, refused: record full", reply(VOL_REFUSED, 8, 12), ENTRIES, 256);
     report_write("vol_write, refused: page length", reply(VOL_REFUSED, 8, 10), ENTRIES, 255);
+}
+
+static void look(uint64_t v) {
     report("vol_read", reply(VOL_SECTOR, 0, LAST_SECTOR), (void *)vol_read, v, LENGTH, 8, 4, LAST, ENTRIES - 1);
-    if (memcmp(volume + 256 * LAST_SECTOR, page, 256) != 0) {
-        printf("stack: the page read is not the page written\n");
-        failed = 1;
-    }
+    expect("the page read", memcmp(volume + 256 * LAST_SECTOR, page, 256) == 0, 1);
     uint64_t length = vol_list(volume, LENGTH, text, sizeof text);
+    expect("the listing has text", length > 0, 1);
     report("vol_list", length, (void *)vol_list, v, LENGTH, (uint64_t)text, sizeof text, 0, 0);
-    if (length == 0) {
-        printf("stack: the listing measured is empty\n");
-        failed = 1;
-    }
+}
+
+static void commit_and_abort(uint64_t v) {
     memcpy(written, volume, LENGTH);
     report("vol_commit", reply(VOL_DONE, 0, FILES + 2), (void *)vol_commit, v, LENGTH, 8, 4, 255, 0);
     memcpy(volume, written, LENGTH);
     report("vol_abort", reply(VOL_DONE, 0, FILES + 1), (void *)vol_abort, v, LENGTH, 8, 4, 255, 0);
-
-    // A commit that is cut after its first store: the next call recovers it, in all sixteen files.
     memcpy(volume, written, LENGTH);
+}
+
+// A commit that is cut after its first store: the next call recovers it, in all sixteen files.
+static void recover(uint64_t v) {
     report("vol_commit, cut", reply(VOL_CUT, 0, 1), (void *)vol_commit, v, LENGTH, 8, 4, 1, 0);
     memcpy(written, volume, LENGTH);
     report("vol_begin, with a recovery", reply(VOL_DONE, 8, FILES + 2), (void *)vol_begin, v, LENGTH, 0, 4, 255, 0);
@@ -114,6 +116,16 @@ int main(void) {
     report("vol_open, with a recovery", reply(VOL_DONE, 1, FILES + 2), (void *)vol_open, v, LENGTH, 1, 1, LAST, 255);
     report("vol_begin, refused: no session", reply(VOL_REFUSED, 16, 2), (void *)vol_begin, v, LENGTH, 16, 2, 255, 0);
     expect("vol_is_sound", vol_is_sound(volume, LENGTH), 1);
+}
+
+int main(void) {
+    uint64_t v = (uint64_t)volume;
+    for (int i = 0; i < 256; i++) page[i] = (uint8_t)(255 - i);
+    begin_and_open(v);
+    write_pages();
+    look(v);
+    commit_and_abort(v);
+    recover(v);
     printf("stack: the highest is %zu bytes, %d are allowed\n", highest, LIMIT);
     return failed;
 }
