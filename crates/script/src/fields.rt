@@ -96,7 +96,7 @@ fn digits(line: &[u8], at: usize) -> u32
     n
 }
 
-// Argument n, counted from 1.
+// Argument n, counted from 1. It is wrong to take `12a` for 12, and wrong to take an argument that isn't there for 0.
 pub fn argument(line: &[u8], n: usize) -> u32
     ensures { λ r. ⌜ r ≡ Fields.argument n (now (line .entry)) ⌝ }
 {

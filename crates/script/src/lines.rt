@@ -1,4 +1,5 @@
-// The calls that lines stand for. Each contract says that it is the definition's call of the line's arguments.
+// The calls that lines stand for. Each contract says that it is the definition's call of the line's arguments. So it is wrong to
+// take a budget left out for 0, and wrong to write the seed again and again.
 use crate::fields::argument;
 use crate::fields::arguments;
 use interface::FormatOutcome;

@@ -1,4 +1,5 @@
-// The lines that are no calls with stores: reads, sessions, single bytes and whole sectors; and those that are passed over.
+// The lines that are no calls with stores: reads, sessions, single bytes and whole sectors; and those that are passed over. It is
+// wrong to change a byte behind the last one, and wrong to show a sector that the end of the volume cuts off.
 use crate::fields::argument;
 use crate::lines::byte_argument;
 use interface::ReadOutcome;

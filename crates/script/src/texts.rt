@@ -1,4 +1,4 @@
-// Bytes as uppercase hexadecimal digits.
+// Bytes as uppercase hexadecimal digits. It is wrong to write lowercase letters, and wrong to write the low digit first.
 ghost use mathlib.Core.Path.{_≡_};
 ghost use Prim.Native.Nat.{_+_, _*_, _/_, _%_, _≤_, _<_};
 ghost use lib.ListN.{length, take, set};
