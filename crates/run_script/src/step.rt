@@ -35,7 +35,7 @@ fn told(r: Reply) -> Turn {
 
 // `dump S`: whether there is such a sector.
 fn dump(v: &[u8], line: &[u8]) -> bool {
-    let part = script::looks::dump(v, line);
+    let part = commands::looks::dump(v, line);
     if part.len() == 0 {
         return false;
     }
@@ -48,12 +48,12 @@ fn look(v: &mut [u8], s: Session, kind: Kind, line: &[u8]) -> bool {
     match kind {
         Kind::Read => {
             put_read(
-                script::looks::read(v, s, line),
-                script::looks::page(v, s, line),
+                commands::looks::read(v, s, line),
+                commands::looks::page(v, s, line),
             );
             true
         }
-        Kind::Poke => script::looks::poke(v, line),
+        Kind::Poke => commands::looks::poke(v, line),
         Kind::Dump => dump(v, line),
         Kind::List => {
             put_list(v);
@@ -66,13 +66,13 @@ fn look(v: &mut [u8], s: Session, kind: Kind, line: &[u8]) -> bool {
 // Runs a line on the volume.
 fn run_line(v: &mut [u8], s: Session, kind: Kind, line: &[u8]) -> Turn {
     match kind {
-        Kind::Begin => told(script::lines::begin(v, s, line)),
-        Kind::Open => told(script::lines::open(v, s, line)),
-        Kind::Write => told(script::lines::write(v, s, line)),
-        Kind::Commit => told(script::lines::commit(v, s, line)),
-        Kind::Abort => told(script::lines::abort(v, s, line)),
+        Kind::Begin => told(commands::lines::begin(v, s, line)),
+        Kind::Open => told(commands::lines::open(v, s, line)),
+        Kind::Write => told(commands::lines::write(v, s, line)),
+        Kind::Commit => told(commands::lines::commit(v, s, line)),
+        Kind::Abort => told(commands::lines::abort(v, s, line)),
         Kind::Session => Turn {
-            session: script::looks::session(line),
+            session: commands::looks::session(line),
             is_understood: true,
         },
         _ => Turn {
@@ -95,7 +95,7 @@ fn at_most(n: usize, buffer: &[u8]) -> usize
 // `format LENGTH T P R P R ..`
 fn format(buffer: &mut [u8], line: &[u8]) -> State {
     let n = at_most(script::fields::argument(line, 1) as usize, buffer);
-    put_format(script::lines::format(&mut buffer[..n], line));
+    put_format(commands::lines::format(&mut buffer[..n], line));
     State {
         length: n,
         session: Session::new(),
@@ -105,7 +105,7 @@ fn format(buffer: &mut [u8], line: &[u8]) -> State {
 
 // Runs one line.
 pub fn step(buffer: &mut [u8], state: State, line: &[u8]) -> State {
-    if script::looks::is_remark(line) {
+    if commands::looks::is_remark(line) {
         return state;
     }
     let kind = script::kinds::kind(line);

@@ -1,5 +1,3 @@
 pub mod Fields
 pub mod Kinds
-pub mod Lines
 pub mod Texts
-pub mod Looks

@@ -1,8 +1,6 @@
-// Scripts of calls as text: what a line asks for, its arguments, and the calls that it stands for.
+// Scripts of calls as text: the fields of a line, what it asks for, and bytes in hexadecimal.
 pub mod fields;
 pub mod kinds;
-pub mod lines;
-pub mod looks;
 pub mod texts;
 
 // What a line asks for.

@@ -1,0 +1,90 @@
+// The lines that are no calls with stores: reads, sessions, single bytes and whole sectors; and those that are passed over. It is
+// wrong to change a byte behind the last one, and wrong to show a sector that the end of the volume cuts off.
+use crate::lines::byte_argument;
+use interface::ReadOutcome;
+use interface::Session;
+use script::fields::argument;
+use sector::Sector;
+ghost use mathlib.Core.Path.{_≡_};
+ghost use Rattle.interface.specs.Answers.{sessionOf, readAnswerOf};
+ghost use Rattle.rules.specs.Calls.{readPart};
+ghost use Rattle.script.specs.Fields;
+ghost use Rattle.commands.specs.Lines.{byteArgument};
+ghost use Rattle.commands.specs.Looks.{isRemark, poked, dumped};
+
+// Whether the line is passed over: it is empty or begins with `#`.
+pub fn is_remark(line: &[u8]) -> bool
+    ensures { λ r. ⌜ r ≡ isRemark (now (line .entry)) ⌝ }
+{
+    if line.len() == 0 {
+        return true;
+    }
+    line[0] == b'#'
+}
+
+// `session M`
+pub fn session(line: &[u8]) -> Session
+    ensures { λ r. ⌜ r ≡ sessionOf (byteArgument 1 (now (line .entry))) ⌝ }
+{
+    interface::session_of(byte_argument(line, 1))
+}
+
+// `read K F P`: the first call.
+pub fn read(v: &[u8], s: Session, line: &[u8]) -> ReadOutcome
+    ensures { λ r. ⌜ readAnswerOf r ≡ Rattle.rules.specs.Calls.read (now (v .entry)) s
+        (byteArgument 1 (now (line .entry))) (byteArgument 2 (now (line .entry))) (byteArgument 3 (now (line .entry))) ⌝ }
+{
+    calls::read(
+        v,
+        s,
+        byte_argument(line, 1),
+        byte_argument(line, 2),
+        byte_argument(line, 3),
+    )
+}
+
+// `read K F P`: the second call, which hands back the page itself.
+pub fn page<'a>(v: &'a [u8], s: Session, line: &[u8]) -> &'a [u8]
+    ensures { λ r. ⌜ now r ≡ readPart (now (v .entry)) s
+        (byteArgument 1 (now (line .entry))) (byteArgument 2 (now (line .entry))) (byteArgument 3 (now (line .entry))) ⌝ }
+{
+    calls::page(
+        v,
+        s,
+        byte_argument(line, 1),
+        byte_argument(line, 2),
+        byte_argument(line, 3),
+    )
+}
+
+// Argument n as an address.
+fn address(line: &[u8], n: usize) -> usize
+    ensures { λ r. ⌜ r ≡ Fields.argument n (now (line .entry)) ⌝ }
+{
+    argument(line, n) as usize
+}
+
+// `poke ADDRESS BYTE`: whether there is such an address.
+pub fn poke(v: &mut [u8], line: &[u8]) -> bool
+    ensures { λ r. ⌜ (record { isInside = r; volume = now (v .exit) }) ≡ poked (now (v .entry)) (now (line .entry)) ⌝ }
+{
+    let at = address(line, 1);
+    if v.len() <= at {
+        return false;
+    }
+    v[at] = byte_argument(line, 2);
+    true
+}
+
+// `dump S`: the sector, or an empty part if there is none.
+pub fn dump<'a>(v: &'a [u8], line: &[u8]) -> &'a [u8]
+    ensures { λ r. ⌜ now r ≡ dumped (now (v .entry)) (now (line .entry)) ⌝ }
+{
+    let s = address(line, 1);
+    if v.len() / Sector::SIZE <= s {
+        return &v[0..0];
+    }
+    let at = Sector::SIZE * s;
+    let e = at + Sector::SIZE;
+    &v[at..e]
+}
