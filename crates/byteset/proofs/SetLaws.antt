@@ -14,20 +14,16 @@ use lib.Dec.{eqb, ltb}
 use lib.ListN.{length, getD, set, replicate}
 use lib.Pow.{pow-add, pow-pos, pow-lt, shl-shr, shl-exact, high}
 use lib.Seq.{getD-set-same, getD-set-other}
-use Rattle.byteset.specs.Set.{noBytes, hasByte, withByte}
+use Rattle.byteset.specs.Set.{noBytes, hasBit, hasByte, withByte}
 
 -- ------------------------------------------------------------------ the bits of one word
--- Bit k of w, as the code tests it.
-abbrev bit : ℕ → ℕ → Bool
-bit w k = not (eqb (bitAnd w (2 ^ k)) 0)
-
 product-zero : (b p : ℕ) → 0 < p → eqb (b * p) 0 ≡ eqb b 0
 product-zero zero p h = let z : 0 * p ≡ 0 = omega arith in rw z
 product-zero (suc b) p h =
     let z : suc b * p ≡ p + b * p = omega arith in
     ne-eqb _ _ (λ (q : suc b * p ≡ 0). omega (arith, z, q, h)) ∙ sym (ne-eqb (suc b) 0 (λ (q : suc b ≡ 0). omega (arith, q)))
 
-bit-is : (w k : ℕ) → bit w k ≡ not (eqb (w / 2 ^ k % 2) 0)
+bit-is : (w k : ℕ) → hasBit w k ≡ not (eqb (w / 2 ^ k % 2) 0)
 bit-is w k =
     let p : 2 ^ (1 + k) ≡ 2 * 2 ^ k = pow-add 2 1 k in
     let m : 2 ^ k ≡ 2 ^ (1 + k) - 2 ^ k = omega (arith, p) in
@@ -65,14 +61,14 @@ other-bit i k n = go (ltb i k) refl
 or-bit : (w i k : ℕ) → bitOr w (2 ^ i) / 2 ^ k % 2 ≡ bitOr (w / 2 ^ k % 2) (2 ^ i / 2 ^ k % 2)
 or-bit w i k = ap (λ (x : ℕ). x % 2) (or-shr w (2 ^ i) k) ∙ or-mod (w / 2 ^ k) (2 ^ i / 2 ^ k) 1
 
-bit-same : (w k : ℕ) → bit (bitOr w (2 ^ k)) k ≡ true
+bit-same : (w k : ℕ) → hasBit (bitOr w (2 ^ k)) k ≡ true
 bit-same w k =
     let b : ℕ = w / 2 ^ k % 2 in
     let q : bitOr w (2 ^ k) / 2 ^ k % 2 ≡ bitOr b 1 = or-bit w k k ∙ ap (bitOr b) (own-bit k) in
     let n : bitOr b 1 ≢ 0 = λ (e : bitOr b 1 ≡ 0). omega (arith, e, or-add-and b 1, and-le-l b 1, and-le-r b 1) in
     bit-is (bitOr w (2 ^ k)) k ∙ ap not (ap (λ (x : ℕ). eqb x 0) q ∙ ne-eqb _ _ n)
 
-bit-other : (w i k : ℕ) → i ≢ k → bit (bitOr w (2 ^ i)) k ≡ bit w k
+bit-other : (w i k : ℕ) → i ≢ k → hasBit (bitOr w (2 ^ i)) k ≡ hasBit w k
 bit-other w i k n =
     let b : ℕ = w / 2 ^ k % 2 in
     let q : bitOr w (2 ^ i) / 2 ^ k % 2 ≡ b = or-bit w i k ∙ ap (bitOr b) (other-bit i k n) ∙ or-zero-r b in
@@ -102,8 +98,8 @@ unfolding hasByte withByte
 has-with s x y h = go (eqb (y / 64) (x / 64)) refl (eqb (y % 64) (x % 64)) refl
   where
     go : (a : Bool) → eqb (y / 64) (x / 64) ≡ a → (b : Bool) → eqb (y % 64) (x % 64) ≡ b
-        → bit (getD (set s (x / 64) (bitOr (getD s (x / 64) 0) (2 ^ (x % 64)))) (y / 64) 0) (y % 64)
-        ≡ (eqb y x || bit (getD s (y / 64) 0) (y % 64))
+        → hasBit (getD (set s (x / 64) (bitOr (getD s (x / 64) 0) (2 ^ (x % 64)))) (y / 64) 0) (y % 64)
+        ≡ (eqb y x || hasBit (getD s (y / 64) 0) (y % 64))
     go false p b q =
         let n : y / 64 ≢ x / 64 = eqb-false _ _ p in
         let m : y ≢ x = λ (e : y ≡ x). n (ap (λ (k : ℕ). k / 64) e) in

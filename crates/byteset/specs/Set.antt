@@ -12,9 +12,13 @@ use Rattle.sector.specs.Lists.{member}
 abbrev pub noBytes : List ℕ
 noBytes = 0 ∷ 0 ∷ 0 ∷ 0 ∷ []
 
+-- Bit k of the word is set.
+abbrev pub hasBit : ℕ → ℕ → Bool
+hasBit w k = not (eqb (bitAnd w (2 ^ k)) 0)
+
 -- Byte x is in the set.
 unfoldable pub hasByte : List ℕ → ℕ → Bool
-hasByte s x = not (eqb (bitAnd (getD s (x / 64) 0) (2 ^ (x % 64))) 0)
+hasByte s x = hasBit (getD s (x / 64) 0) (x % 64)
 
 -- The set with byte x in it.
 unfoldable pub withByte : List ℕ → ℕ → List ℕ

@@ -7,25 +7,12 @@ ghost use Prim.Native.Nat.{_/_, _%_, _^_, _<_};
 ghost use lib.ListN.{length};
 ghost use Rattle.byteset.specs.Set.{hasByte, withByte};
 
-// The byte as a word.
-fn wide(x: u8) -> u64
-    ensures { λ r. ⌜ (r ≡ x) × (r < 256) ⌝ }
-{
-    x as u64
-}
-
-// The word that has only the bit of byte x.
-fn mask(x: u8) -> u64
+// The word that has only the bit of number x.
+fn mask(x: usize) -> u64
     ensures { λ r. ⌜ r ≡ 2 ^ (x % 64) ⌝ }
 {
-    1u64 << wide(x % 64)
-}
-
-// Which of the four words has byte x.
-fn index(x: u8) -> usize
-    ensures { λ r. ⌜ (r ≡ x / 64) × (r < 4) ⌝ }
-{
-    size(x / 64)
+    let k = (x % 64) as u64;
+    1u64 << k
 }
 
 // Whether byte x is in the set.
@@ -33,8 +20,9 @@ pub fn has(seen: &[u64; 4], x: u8) -> bool
     requires { ⌜ length (now seen) ≡ 4 ⌝ }
     ensures { λ r. ⌜ r ≡ hasByte (now (seen .entry)) x ⌝ }
 {
-    let i = index(x);
-    seen[i] & mask(x) != 0
+    let n = size(x);
+    let i = n / 64;
+    seen[i] & mask(n) != 0
 }
 
 // Puts byte x into the set.
@@ -42,40 +30,34 @@ pub fn add(seen: &mut [u64; 4], x: u8)
     requires { ⌜ length (now seen) ≡ 4 ⌝ }
     ensures { λ _. ⌜ (now (seen .exit) ≡ withByte (now (seen .entry)) x) × (length (now (seen .exit)) ≡ 4) ⌝ }
 {
-    let i = index(x);
-    let m = mask(x);
+    let n = size(x);
+    let i = n / 64;
+    let m = mask(n);
     seen[i] = seen[i] | m;
 }
 
-// Puts byte x into the set. The answer is whether it was absent.
+// Puts byte x into the set. The answer is whether it was absent. It is wrong to answer whether it is there afterwards, and wrong
+// to put another byte in with it.
 pub fn insert(seen: &mut [u64; 4], x: u8) -> bool
     requires { ⌜ length (now seen) ≡ 4 ⌝ }
     ensures { λ r. ⌜ (r ≡ not (hasByte (now (seen .entry)) x)) × (now (seen .exit) ≡ withByte (now (seen .entry)) x) × (length (now (seen .exit)) ≡ 4) ⌝ }
 {
     let n = size(x);
     let i = n / 64;
-    let m = number_mask(n);
+    let m = mask(n);
     let word = seen[i];
     seen[i] = word | m;
     word & m == 0
 }
 
-// Puts number x into the set. The answer is whether it was absent.
+// Puts number x into the set. The answer is whether it was absent. It is wrong to let numbers 32 apart share a bit.
 pub fn insert_number(seen: &mut [u64; 16], x: usize) -> bool
     requires { ⌜ (length (now seen) ≡ 16) × (x < 1024) ⌝ }
     ensures { λ r. ⌜ (r ≡ not (hasByte (now (seen .entry)) x)) × (now (seen .exit) ≡ withByte (now (seen .entry)) x) × (length (now (seen .exit)) ≡ 16) ⌝ }
 {
     let i = x / 64;
-    let m = number_mask(x);
+    let m = mask(x);
     let word = seen[i];
     seen[i] = word | m;
     word & m == 0
-}
-
-// The word that has only the bit of number x.
-fn number_mask(x: usize) -> u64
-    ensures { λ r. ⌜ r ≡ 2 ^ (x % 64) ⌝ }
-{
-    let k = (x % 64) as u64;
-    1u64 << k
 }

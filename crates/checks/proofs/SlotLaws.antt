@@ -19,10 +19,10 @@ use Rattle.sector.specs.Lists.{any, filter, find, member, from}
 use Rattle.sector.specs.Entries.{givesSlot}
 use Rattle.volume.specs.Places.{fileAt}
 use Rattle.volume.specs.Views.{View}
-use Rattle.byteset.specs.Set.{noBytes, hasByte}
+use Rattle.byteset.specs.Set.{noBytes, hasByte, hasBit}
 use Rattle.byteset.proofs.SetLaws.{has-none}
 use Rattle.rules.specs.Plans.{freeSlots}
-use Rattle.checks.specs.Slots.{firstOf, bitOf, LowOnes}
+use Rattle.checks.specs.Slots.{firstOf, LowOnes}
 
 -- ------------------------------------------------------------------ a loop over a list, by index
 module _ {A : Type 0} (xs : List A) (i : ℕ) (x : A) (next : drop i xs ≡ x ∷ drop (i + 1) xs) (t : A → Bool) where
@@ -77,10 +77,10 @@ lowest-from t n (suc i) h = lowest-next t _ n i (lowest-from t n i (λ y (l : y 
 
 -- ------------------------------------------------------------------ the lowest clear bit
 -- The lowest bit, and those above it in the word's half.
-bit-low : (w : ℕ) → bitOf w 0 ≡ not (eqb (w % 2) 0)
+bit-low : (w : ℕ) → hasBit w 0 ≡ not (eqb (w % 2) 0)
 bit-low w = ap (λ (x : ℕ). not (eqb x 0)) (and-mask w 1)
 
-bit-half : (w j : ℕ) → bitOf w (suc j) ≡ bitOf (w / 2) j
+bit-half : (w j : ℕ) → hasBit w (suc j) ≡ hasBit (w / 2) j
 bit-half w j =
     let p : 2 ^ suc j ≡ 2 ^ j * 2 = pow-suc 2 j in
     let half : 2 ^ suc j / 2 ≡ 2 ^ j = omega (arith, p) in
@@ -98,7 +98,7 @@ ones-turn : (k w t b : ℕ) → b < 2 → w % 2 ≡ b → LowOnes k (w / 2) t �
 ones-turn k w t zero small e rest = (zero-le, λ j (l : j < 0). absurd (not-suc-le-zero l), λ l. bit-low w ∙ rw e)
 ones-turn k w t (suc zero) small e rest = (omega (arith, rest .0), below, λ (l : suc t < suc k). bit-half w t ∙ rest .2 (le-of-suc-le-suc l))
   where
-    below : (j : ℕ) → j < suc t → bitOf w j ≡ true
+    below : (j : ℕ) → j < suc t → hasBit w j ≡ true
     below zero l = bit-low w ∙ rw e
     below (suc j) l = bit-half w j ∙ rest .1 j (le-of-suc-le-suc l)
 ones-turn k w t (suc (suc b)) small e rest = absurd (not-suc-le-zero (le-of-suc-le-suc (le-of-suc-le-suc small)))

@@ -5,6 +5,7 @@ use interface::Reply;
 use interface::Session;
 use script::fields::argument;
 use script::fields::arguments;
+use sector::low;
 use sector::size;
 ghost use mathlib.Core.Path.{_≡_};
 ghost use Prim.Native.Nat.{_+_, _%_, _≤_, min};
@@ -71,13 +72,6 @@ pub fn abort(v: &mut [u8], s: Session, line: &[u8]) -> Reply
     ensures { λ r. ⌜ replied r (now (v .exit)) ≡ call (now (v .entry)) s (Plans.abort (byteArgument 1 (now (line .entry)))) (budgetArgument 2 (now (line .entry))) ⌝ }
 {
     calls::abort(v, s, byte_argument(line, 1), budget(line, 2))
-}
-
-// The low byte of a number.
-fn low(n: usize) -> u8
-    ensures { λ r. ⌜ r ≡ n % 256 ⌝ }
-{
-    (n % 256) as u8
 }
 
 // The first n bytes become the data of this seed.

@@ -1,5 +1,6 @@
 // The table and the headers of a new volume, written into a part of the array that is zeros.
 use sector::Sector;
+use sector::low;
 use sector::size;
 ghost use mathlib.Core.Path.{_≡_};
 ghost use mathlib.Core.List.{[], _∷_};
@@ -12,14 +13,7 @@ ghost use Rattle.sector.specs.Encoding.{fileBytes, encodeTable, encodeHeader};
 ghost use Rattle.volume.specs.Format.{filesOf};
 ghost use Rattle.format.specs.Puts.{Puts};
 
-// The low byte of a two-byte number.
-fn low(n: usize) -> u8
-    ensures { λ r. ⌜ r ≡ n % 256 ⌝ }
-{
-    (n % 256) as u8
-}
-
-// Its high byte.
+// The high byte of a two-byte number.
 fn high(n: usize) -> u8
     requires { ⌜ n < 65536 ⌝ }
     ensures { λ r. ⌜ r ≡ n / 256 ⌝ }

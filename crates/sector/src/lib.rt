@@ -18,6 +18,7 @@ pub use read::file_header;
 pub use read::file_pages;
 pub use read::file_slots;
 pub use read::header_holder;
+pub use read::low;
 pub use read::map_slot;
 pub use read::part;
 pub use read::record_count;

@@ -1,6 +1,6 @@
 // Readers of a sector, and of the fields of a control sector by their places. Each takes the 256 bytes of the sector.
 ghost use mathlib.Core.Path.{_≡_};
-ghost use Prim.Native.Nat.{_+_, _*_, _≤_, _<_};
+ghost use Prim.Native.Nat.{_+_, _*_, _≤_, _<_, _%_};
 ghost use lib.ListN.{length};
 ghost use Rattle.sector.specs.Sectors.{sector, byte, word};
 ghost use Rattle.sector.specs.Decoding.{sectorsIn, clientsIn, fileCountIn, headerSectorIn, fileIn, stateIn, countIn, entryIn, holderIn, mapIn};
@@ -14,6 +14,13 @@ pub fn part(v: &[u8], s: usize) -> &[u8]
     let at = Sector::SIZE * s;
     let e = at + Sector::SIZE;
     &v[at..e]
+}
+
+// The low byte of a number.
+pub fn low(n: usize) -> u8
+    ensures { λ r. ⌜ r ≡ n % 256 ⌝ }
+{
+    (n % 256) as u8
 }
 
 // A byte as a number for indices and sums.

@@ -5,8 +5,8 @@ use Rattle.byteset.specs.Set.{withByte}
 use Rattle.byteset.proofs.add.Statement.{statement}
 use Rattle.byteset.proofs.add.Tie as tie
 
-index-requires : tie.Need-index-requires
-index-requires c κs = search needs
+size-requires : tie.Need-size-requires
+size-requires c κs = search needs
 
 mask-requires : tie.Need-mask-requires
 mask-requires c κs = search needs
@@ -25,13 +25,13 @@ element-write-seen c = search needs
 
 returns : tie.Need-returns
 unfolding withByte
-returns c = (rw (c .before .before .index .ensures .0, c .before .mask .ensures), simp length-set (c .before .before .before .pre))
+returns c = (rw (c .before .mask .ensures, c .before .before .size .ensures .0), simp length-set (c .before .before .before .pre))
 
 pub add-spec : {M : Type 1} → statement M
 add-spec =
     tie.close
     (tie.spec
-    index-requires
+    size-requires
     mask-requires
     mul-seen
     element-copy-out-seen

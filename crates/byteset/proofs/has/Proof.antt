@@ -4,8 +4,8 @@ use Rattle.byteset.specs.Set.{hasByte}
 use Rattle.byteset.proofs.has.Statement.{statement}
 use Rattle.byteset.proofs.has.Tie as tie
 
-index-requires : tie.Need-index-requires
-index-requires c κs = search needs
+size-requires : tie.Need-size-requires
+size-requires c κs = search needs
 
 mul-result : tie.Need-mul-result
 mul-result c = search needs
@@ -18,8 +18,8 @@ mask-requires c κs = search needs
 
 returns : tie.Need-returns
 unfolding hasByte
-returns c = rw (c .before .before .index .ensures .0, c .mask .ensures)
+returns c = rw (c .mask .ensures, c .before .before .size .ensures .0)
 
 pub has-spec : {M : Type 1} → statement M
 has-spec =
-    tie.close (tie.spec index-requires mul-result element-copy-out-result mask-requires returns)
+    tie.close (tie.spec size-requires mul-result element-copy-out-result mask-requires returns)

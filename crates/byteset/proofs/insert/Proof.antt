@@ -10,8 +10,8 @@ use Rattle.byteset.proofs.insert.Tie as tie
 size-requires : tie.Need-size-requires
 size-requires c κs = search needs
 
-number-mask-requires : tie.Need-number-mask-requires
-number-mask-requires c κs = search needs
+mask-requires : tie.Need-mask-requires
+mask-requires c κs = search needs
 
 mul-word : tie.Need-mul-word
 mul-word c = search needs
@@ -30,14 +30,14 @@ unfolding hasByte withByte
 returns c =
     let m = c .before in
     let n = m .before .size .ensures .0 in
-    (rw (m .number-mask .ensures, n) (sym (Bool·not-not _)), rw (m .number-mask .ensures, n), simp length-set (m .before .before .pre))
+    (rw (m .mask .ensures, n) (sym (Bool·not-not _)), rw (m .mask .ensures, n), simp length-set (m .before .before .pre))
 
 pub insert-spec : {M : Type 1} → statement M
 insert-spec =
     tie.close
     (tie.spec
     size-requires
-    number-mask-requires
+    mask-requires
     mul-word
     element-copy-out-word
     mul-seen

@@ -7,8 +7,8 @@ use Rattle.byteset.specs.Set.{hasByte, withByte}
 use Rattle.byteset.proofs.insert_number.Statement.{statement}
 use Rattle.byteset.proofs.insert_number.Tie as tie
 
-number-mask-requires : tie.Need-number-mask-requires
-number-mask-requires c κs = search needs
+mask-requires : tie.Need-mask-requires
+mask-requires c κs = search needs
 
 mul-word : tie.Need-mul-word
 mul-word c = search needs
@@ -26,13 +26,13 @@ returns : tie.Need-returns
 unfolding hasByte withByte
 returns c =
     let m = c .before in
-    (rw (m .number-mask .ensures) (sym (Bool·not-not _)), rw (m .number-mask .ensures), simp length-set (m .before .pre .0))
+    (rw (m .mask .ensures) (sym (Bool·not-not _)), rw (m .mask .ensures), simp length-set (m .before .pre .0))
 
 pub insert-number-spec : {M : Type 1} → statement M
 insert-number-spec =
     tie.close
     (tie.spec
-    number-mask-requires
+    mask-requires
     mul-word
     element-copy-out-word
     mul-seen
