@@ -5,6 +5,7 @@ pub mod PendingLaws
 pub mod RelationLaws
 pub mod StepLaws
 pub mod Theorem
+pub mod TranscriptLaws
 pub mod ReturnLaws
 pub mod NotHollow
 pub mod FreshLaws

@@ -1,10 +1,15 @@
--- What the lines of the calls do, by their arguments.
+-- The lines that are calls, by their arguments: the command, and so the step, that each stands for.
+use mathlib.Core.Bool.{false}
 use mathlib.Core.List.{[], _∷_, _++_}
 use Prim.Native.Nat.{ℕ, zero, suc, _+_, _-_, _%_, min}
 use lib.Dec.{ltb}
 use Rattle.sector.specs.Lists.{if_then_else_}
 use Rattle.sector.specs.Contents.{Bytes}
 use Rattle.script.specs.Fields.{arguments, argument}
+use Rattle.atomicity.specs.Runs.{Step}
+use Rattle.commands.specs.declared.Action.{Action}
+use Rattle.commands.specs.declared.Command.{Command}
+use Rattle.commands.specs.Commands.{stepOf}
 
 -- Argument i as a byte. A line that is understood has no larger one where this is asked.
 abbrev pub byteArgument : ℕ → Bytes → ℕ
@@ -26,6 +31,34 @@ values f (suc n) = values f n ++ (f n ∷ [])
 -- Data of n bytes: "byte i is (SEED + i) mod 256".
 abbrev pub ramp : (seed : ℕ) → (n : ℕ) → Bytes
 ramp seed n = values (λ i. (seed + i) % 256) n
+
+-- What a write line stores.
+abbrev pub lineData : Bytes → Bytes
+lineData l = ramp (byteArgument 4 l) (dataLength l)
+
+-- Which argument is the BUDGET: the last one. A read has none.
+abbrev pub budgetPlace : Action → ℕ
+budgetPlace Action.Begin = 2
+budgetPlace Action.Open = 3
+budgetPlace Action.Write = 6
+budgetPlace Action.Commit = 2
+budgetPlace Action.Abort = 2
+budgetPlace Action.Read = 4
+
+-- The command of a line: client, file and page come first. Arguments that the call doesn't take say nothing.
+unfoldable pub lineCommand : Action → Bytes → Command
+lineCommand a l = record {
+  action = a;
+  crash = false;
+  client = byteArgument 1 l;
+  file = byteArgument 2 l;
+  page = byteArgument 3 l;
+  budget = budgetArgument (budgetPlace a) l;
+}
+
+-- The step that a line stands for.
+abbrev pub lineStep : Action → Bytes → Step
+lineStep a l = stepOf (lineCommand a l) (lineData l)
 
 -- The list of a format line: "0 to 64 numbers", from argument 3 on.
 abbrev pub shapeLength : Bytes → ℕ

@@ -1,7 +1,10 @@
-// The calls that lines stand for. Each contract says that it is the definition's call of the line's arguments. So it is wrong to
-// take a budget left out for 0, and wrong to write the seed again and again.
+// The lines that are calls, as commands, and the line that formats. Each contract says which of the definition's steps the line
+// is. So it is wrong to take a budget left out for 0, and wrong to write the seed again and again.
+use crate::Action;
+use crate::Command;
+use crate::Performed;
+use crate::perform;
 use interface::FormatOutcome;
-use interface::Reply;
 use interface::Session;
 use script::fields::argument;
 use script::fields::arguments;
@@ -12,12 +15,10 @@ ghost use Prim.Native.Nat.{_+_, _%_, _≤_, min};
 ghost use lib.ListN.{length, take};
 ghost use Rattle.volume.specs.Format;
 ghost use Rattle.format.specs.Outcomes.{formatted};
-ghost use Rattle.rules.specs.Plans.{openFile};
-ghost use Rattle.rules.specs.Plans;
-ghost use Rattle.rules.specs.Calls.{call};
-ghost use Rattle.calls.specs.Replies.{replied};
+ghost use Rattle.atomicity.specs.Model.{Model};
 ghost use Rattle.script.specs.Fields;
-ghost use Rattle.commands.specs.Lines.{byteArgument, budgetArgument, dataLength, shapeLength, shapeOf, ramp};
+ghost use Rattle.commands.specs.Commands.{runOf, IsPerformed};
+ghost use Rattle.commands.specs.Lines.{byteArgument, budgetArgument, budgetPlace, lineCommand, lineStep, dataLength, shapeLength, shapeOf, ramp};
 
 // Argument n as a byte.
 pub fn byte_argument(line: &[u8], n: usize) -> u8
@@ -40,38 +41,32 @@ fn budget(line: &[u8], n: usize) -> u8
     byte_argument(line, n)
 }
 
-// `begin K [BUDGET]`
-pub fn begin(v: &mut [u8], s: Session, line: &[u8]) -> Reply
-    ensures { λ r. ⌜ replied r (now (v .exit)) ≡ call (now (v .entry)) s (Plans.begin (byteArgument 1 (now (line .entry)))) (budgetArgument 2 (now (line .entry))) ⌝ }
+// Which argument of the line is its budget.
+fn budget_place(a: Action) -> usize
+    ensures { λ r. ⌜ r ≡ budgetPlace a ⌝ }
 {
-    calls::begin(v, s, byte_argument(line, 1), budget(line, 2))
+    match a {
+        Action::Begin => 2,
+        Action::Open => 3,
+        Action::Write => 6,
+        Action::Commit => 2,
+        Action::Abort => 2,
+        Action::Read => 4,
+    }
 }
 
-// `open K F [BUDGET]`
-pub fn open(v: &mut [u8], s: Session, line: &[u8]) -> Reply
-    ensures { λ r. ⌜ replied r (now (v .exit)) ≡ call (now (v .entry)) s (openFile (byteArgument 1 (now (line .entry))) (byteArgument 2 (now (line .entry)))) (budgetArgument 3 (now (line .entry))) ⌝ }
+// The command of a line. Arguments that it doesn't take say nothing.
+pub fn command(a: Action, line: &[u8]) -> Command
+    ensures { λ r. ⌜ r ≡ lineCommand a (now (line .entry)) ⌝ }
 {
-    calls::open(
-        v,
-        s,
-        byte_argument(line, 1),
-        byte_argument(line, 2),
-        budget(line, 3),
-    )
-}
-
-// `commit K [BUDGET]`
-pub fn commit(v: &mut [u8], s: Session, line: &[u8]) -> Reply
-    ensures { λ r. ⌜ replied r (now (v .exit)) ≡ call (now (v .entry)) s (Plans.commit (byteArgument 1 (now (line .entry)))) (budgetArgument 2 (now (line .entry))) ⌝ }
-{
-    calls::commit(v, s, byte_argument(line, 1), budget(line, 2))
-}
-
-// `abort K [BUDGET]`
-pub fn abort(v: &mut [u8], s: Session, line: &[u8]) -> Reply
-    ensures { λ r. ⌜ replied r (now (v .exit)) ≡ call (now (v .entry)) s (Plans.abort (byteArgument 1 (now (line .entry)))) (budgetArgument 2 (now (line .entry))) ⌝ }
-{
-    calls::abort(v, s, byte_argument(line, 1), budget(line, 2))
+    Command {
+        action: a,
+        crash: false,
+        client: byte_argument(line, 1),
+        file: byte_argument(line, 2),
+        page: byte_argument(line, 3),
+        budget: budget(line, budget_place(a)),
+    }
 }
 
 // The first n bytes become the data of this seed.
@@ -98,25 +93,15 @@ fn data_length(line: &[u8]) -> usize
     512
 }
 
-// `write K F P SEED LENGTH [BUDGET]`
-pub fn write(v: &mut [u8], s: Session, line: &[u8]) -> Reply
-    ensures { λ r. ⌜ replied r (now (v .exit)) ≡ call (now (v .entry)) s
-        (Plans.write (byteArgument 1 (now (line .entry))) (byteArgument 2 (now (line .entry))) (byteArgument 3 (now (line .entry)))
-        (ramp (byteArgument 4 (now (line .entry))) (dataLength (now (line .entry)))))
-        (budgetArgument 6 (now (line .entry))) ⌝ }
+// `begin K [BUDGET]`, `open K F [BUDGET]`, `write K F P SEED LENGTH [BUDGET]`, `commit K [BUDGET]`, `abort K [BUDGET]`, and of
+// `read K F P` the first call.
+pub fn perform_line(v: &mut [u8], s: Session, a: Action, line: &[u8]) -> Performed
+    ensures { λ r. ⌜ ((m : Model) → IsPerformed (runOf (now (v .entry)) s m) (lineStep a (now (line .entry))) r (now (v .exit))) ⌝ }
 {
     let mut data = [0u8; 512];
     let n = data_length(line);
     fill(&mut data, byte_argument(line, 4), n);
-    calls::write(
-        v,
-        s,
-        byte_argument(line, 1),
-        byte_argument(line, 2),
-        byte_argument(line, 3),
-        &data[..n],
-        budget(line, 6),
-    )
+    perform(v, s, command(a, line), &data[..n])
 }
 
 // The number of bytes in a format's list.

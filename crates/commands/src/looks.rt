@@ -1,12 +1,13 @@
-// The lines that are no calls with stores: reads, sessions, single bytes and whole sectors; and those that are passed over. It is
+// The lines that are no commands: a read's second call, sessions, single bytes and whole sectors; and those that are passed over. It is
 // wrong to change a byte behind the last one, and wrong to show a sector that the end of the volume cuts off.
+use crate::Action;
 use crate::lines::byte_argument;
-use interface::ReadOutcome;
+use crate::lines::command;
 use interface::Session;
 use script::fields::argument;
 use sector::Sector;
 ghost use mathlib.Core.Path.{_≡_};
-ghost use Rattle.interface.specs.Answers.{sessionOf, readAnswerOf};
+ghost use Rattle.interface.specs.Answers.{sessionOf};
 ghost use Rattle.rules.specs.Calls.{readPart};
 ghost use Rattle.script.specs.Fields;
 ghost use Rattle.commands.specs.Lines.{byteArgument};
@@ -29,32 +30,12 @@ pub fn session(line: &[u8]) -> Session
     interface::session_of(byte_argument(line, 1))
 }
 
-// `read K F P`: the first call.
-pub fn read(v: &[u8], s: Session, line: &[u8]) -> ReadOutcome
-    ensures { λ r. ⌜ readAnswerOf r ≡ Rattle.rules.specs.Calls.read (now (v .entry)) s
-        (byteArgument 1 (now (line .entry))) (byteArgument 2 (now (line .entry))) (byteArgument 3 (now (line .entry))) ⌝ }
-{
-    calls::read(
-        v,
-        s,
-        byte_argument(line, 1),
-        byte_argument(line, 2),
-        byte_argument(line, 3),
-    )
-}
-
 // `read K F P`: the second call, which hands back the page itself.
 pub fn page<'a>(v: &'a [u8], s: Session, line: &[u8]) -> &'a [u8]
     ensures { λ r. ⌜ now r ≡ readPart (now (v .entry)) s
         (byteArgument 1 (now (line .entry))) (byteArgument 2 (now (line .entry))) (byteArgument 3 (now (line .entry))) ⌝ }
 {
-    calls::page(
-        v,
-        s,
-        byte_argument(line, 1),
-        byte_argument(line, 2),
-        byte_argument(line, 3),
-    )
+    crate::page(v, s, command(Action::Read, line))
 }
 
 // Argument n as an address.

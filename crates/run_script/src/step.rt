@@ -4,7 +4,8 @@ use crate::print::put_hex;
 use crate::print::put_list;
 use crate::print::put_outcome;
 use crate::print::put_read;
-use interface::Reply;
+use commands::Action;
+use commands::Told;
 use interface::Session;
 use script::Kind;
 ghost use Rattle.io.specs.Counts.{Counts};
@@ -22,13 +23,17 @@ struct Turn {
     is_understood: bool,
 }
 
-// The answer is printed; the session is the one that the call handed back.
-fn told(r: Reply) -> Turn {
-    let o = r.outcome;
-    put_outcome(o);
-    let s = r.session;
+// A line that is a call: it is performed, and its answer is printed.
+fn run_call(v: &mut [u8], s: Session, a: Action, line: &[u8]) -> Turn {
+    let p = commands::lines::perform_line(v, s, a, line);
+    let t = p.told;
+    match t {
+        Told::Call(o) => put_outcome(o),
+        Told::Read(o) => put_read(o, commands::looks::page(v, s, line)),
+    }
+    let next = p.session;
     Turn {
-        session: s,
+        session: next,
         is_understood: true,
     }
 }
@@ -44,15 +49,8 @@ fn dump(v: &[u8], line: &[u8]) -> bool {
 }
 
 // A line that leaves the session as it is: whether it names a place in the volume.
-fn look(v: &mut [u8], s: Session, kind: Kind, line: &[u8]) -> bool {
+fn look(v: &mut [u8], kind: Kind, line: &[u8]) -> bool {
     match kind {
-        Kind::Read => {
-            put_read(
-                commands::looks::read(v, s, line),
-                commands::looks::page(v, s, line),
-            );
-            true
-        }
         Kind::Poke => commands::looks::poke(v, line),
         Kind::Dump => dump(v, line),
         Kind::List => {
@@ -66,18 +64,19 @@ fn look(v: &mut [u8], s: Session, kind: Kind, line: &[u8]) -> bool {
 // Runs a line on the volume.
 fn run_line(v: &mut [u8], s: Session, kind: Kind, line: &[u8]) -> Turn {
     match kind {
-        Kind::Begin => told(commands::lines::begin(v, s, line)),
-        Kind::Open => told(commands::lines::open(v, s, line)),
-        Kind::Write => told(commands::lines::write(v, s, line)),
-        Kind::Commit => told(commands::lines::commit(v, s, line)),
-        Kind::Abort => told(commands::lines::abort(v, s, line)),
+        Kind::Begin => run_call(v, s, Action::Begin, line),
+        Kind::Open => run_call(v, s, Action::Open, line),
+        Kind::Write => run_call(v, s, Action::Write, line),
+        Kind::Commit => run_call(v, s, Action::Commit, line),
+        Kind::Abort => run_call(v, s, Action::Abort, line),
+        Kind::Read => run_call(v, s, Action::Read, line),
         Kind::Session => Turn {
             session: commands::looks::session(line),
             is_understood: true,
         },
         _ => Turn {
             session: s,
-            is_understood: look(v, s, kind, line),
+            is_understood: look(v, kind, line),
         },
     }
 }

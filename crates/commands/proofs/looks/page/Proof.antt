@@ -1,31 +1,18 @@
--- `page` meets its contract: the call of the line's arguments.
+-- `page` meets its contract: the command of the line isn't given a new session.
 use borrow.Author.Needs.{needs}
+use Rattle.commands.specs.Lines.{lineCommand}
 use Rattle.commands.proofs.looks.page.Statement.{statement}
 use Rattle.commands.proofs.looks.page.Tie as tie
 
-byte-argument-requires : tie.Need-byte-argument-requires
-byte-argument-requires c κs = search needs
-
-byte-argument-requires-2 : tie.Need-byte-argument-requires-2
-byte-argument-requires-2 c κs = search needs
-
-byte-argument-requires-3 : tie.Need-byte-argument-requires-3
-byte-argument-requires-3 c κs = search needs
+command-requires : tie.Need-command-requires
+command-requires c κs = search needs
 
 page-requires : tie.Need-page-requires
 page-requires c κs = search needs
 
 returns : tie.Need-returns
-returns c =
-    let b = c .before in
-    rw (← b .before .before .byte-argument .ensures, ← b .before .byte-argument2 .ensures, ← b .byte-argument3 .ensures) (c .page .ensures)
+unfolding lineCommand
+returns c = rw (c .before .command .ensures) at (c .page .ensures)
 
 pub page-spec : {M : Type 1} → statement M
-page-spec =
-    tie.close
-    (tie.spec
-    byte-argument-requires
-    byte-argument-requires-2
-    byte-argument-requires-3
-    page-requires
-    returns)
+page-spec = tie.close (tie.spec command-requires page-requires returns)
