@@ -5,12 +5,12 @@ use borrow.Author.Tests.{lt-ltb, le-ltb}
 use Rattle.interface.specs.declared.Session.{Session}
 use Rattle.interface.specs.declared.Reply.{Reply}
 use Rattle.interface.specs.declared.ReadOutcome.{ReadOutcome}
-use Rattle.interface.specs.Answers.{sessionOf, answerOf, readAnswerOf}
+use Rattle.interface.specs.Answers.{sessionOf, sessionByte, answerOf, readAnswerOf}
 use Rattle.sector.specs.Sectors.{Volume}
 use Rattle.rules.specs.Plans.{Call}
 use Rattle.rules.specs.Calls.{call, read}
 use Rattle.calls.specs.Replies.{replied}
-use Rattle.capi.specs.Packing.{packedAnswer, packedRead, sessionByte, foreignReply, packedAfter, calledBy, readBy}
+use Rattle.capi.specs.Packing.{packedAnswer, packedRead, foreignReply, packedAfter, calledBy, readBy}
 
 -- A byte that is no session: the reply says so, and the volume is as it was.
 pub foreign-call : (v : Volume) (b : ℕ) (c : Call) (budget n : ℕ) → 15 < b → n ≡ foreignReply v b

@@ -5,8 +5,8 @@ use mathlib.Core.Path.{_≡_, refl}
 use native.Mathlib.Omega.{arith}
 use Prim.Native.Nat.{ℕ, _/_, _%_, _<_}
 use Rattle.interface.specs.declared.Session.{Session}
-use Rattle.interface.specs.Answers.{sessionOf}
-use Rattle.capi.specs.Packing.{packed, sessionByte}
+use Rattle.interface.specs.Answers.{sessionOf, sessionByte}
+use Rattle.capi.specs.Packing.{packed}
 
 pub kind-back : (k s n : ℕ) → k < 256 → packed k s n % 256 ≡ k
 kind-back k s n h = omega arith

@@ -2,9 +2,7 @@
 use mathlib.Core.Bool.{Bool, true, false}
 use Prim.Native.Nat.{ℕ, _+_, _*_}
 use lib.Dec.{ltb}
-use lib.ListN.{getD}
-use Rattle.interface.specs.declared.Session.{Session}
-use Rattle.interface.specs.Answers.{sessionOf, Answer, done, crashed, refused, ReadAnswer, found, readRefused, FormatAnswer, formatDone, formatRefused}
+use Rattle.interface.specs.Answers.{sessionOf, sessionByte, Answer, done, crashed, refused, ReadAnswer, found, readRefused, FormatAnswer, formatDone, formatRefused}
 use Rattle.sector.specs.Lists.{if_then_else_}
 use Rattle.sector.specs.Sectors.{Volume}
 use Rattle.volume.specs.Sound.{sound}
@@ -25,18 +23,6 @@ packedFormat (formatRefused n) = packed 2 0 n
 abbrev pub truth : Bool → ℕ
 truth true = 1
 truth false = 0
-
--- ------------------------------------------------------------------ sessions
--- What a mark adds to the byte.
-abbrev pub markWorth : Bool → ℕ → ℕ
-markWorth true worth = worth
-markWorth false worth = 0
-
--- A session as a byte: 1, 2, 4 and 8 for the marks of clients 1 to 4.
-abbrev pub sessionByte : Session → ℕ
-sessionByte s =
-    markWorth (getD (s .active) 0 false) 1 + markWorth (getD (s .active) 1 false) 2
-    + markWorth (getD (s .active) 2 false) 4 + markWorth (getD (s .active) 3 false) 8
 
 -- ------------------------------------------------------------------ replies
 -- A call's answer, beside the byte of the session that it hands back.

@@ -8,8 +8,8 @@ use interface::Session;
 use listing::ListOutcome;
 ghost use mathlib.Core.Path.{_≡_};
 ghost use Prim.Native.Nat.{_≤_};
-ghost use Rattle.interface.specs.Answers.{refusalNumber, answerOf, readAnswerOf, formatAnswerOf};
-ghost use Rattle.capi.specs.Packing.{packed, packedFormat, markWorth, sessionByte, packedAnswer, packedRead, foreignReply, listedLength};
+ghost use Rattle.interface.specs.Answers.{sessionByte, refusalNumber, answerOf, readAnswerOf, formatAnswerOf};
+ghost use Rattle.capi.specs.Packing.{packed, packedFormat, packedAnswer, packedRead, foreignReply, listedLength};
 
 // The number of a refusal.
 fn refusal_number(r: Refusal) -> u64
@@ -28,24 +28,11 @@ pub fn pack_format(o: FormatOutcome) -> u64
     }
 }
 
-// What a mark adds to the byte.
-fn mark_worth(mark: bool, worth: u64) -> u64
-    ensures { λ r. ⌜ (r ≡ markWorth mark worth) × (r ≤ worth) ⌝ }
-{
-    if mark {
-        return worth;
-    }
-    0
-}
-
-// A session as a byte.
+// A session as a number of a reply.
 fn session_byte(s: Session) -> u64
     ensures { λ r. ⌜ (r ≡ sessionByte s) × (r ≤ 15) ⌝ }
 {
-    mark_worth(s.active[0], 1)
-        + mark_worth(s.active[1], 2)
-        + mark_worth(s.active[2], 4)
-        + mark_worth(s.active[3], 8)
+    interface::session_byte(s) as u64
 }
 
 // A byte as a number of a reply.

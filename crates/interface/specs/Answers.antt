@@ -1,8 +1,9 @@
 -- The answers of document 01, and which of them each value of the interface is.
-use mathlib.Core.Bool.{false}
+use mathlib.Core.Bool.{Bool, true, false}
 use mathlib.Core.List.{[], _∷_}
-use Prim.Native.Nat.{ℕ, _/_, _%_}
+use Prim.Native.Nat.{ℕ, _+_, _/_, _%_}
 use lib.Dec.{eqb}
+use lib.ListN.{getD}
 use Rattle.interface.specs.declared.Session.{Session}
 use Rattle.interface.specs.declared.Refusal.{Refusal}
 use Rattle.interface.specs.declared.Refusal.the-variants.{NotSound, BadSession, NoClient, AlreadyActive, NotActive, NoFile, FileInUse, NotHeld, NoPage, BadPageLength, NoFreeSlot, RecordFull, BadVolumeLength, BadShape, TooFewSectors}
@@ -17,6 +18,17 @@ newSession = record { active = false ∷ false ∷ false ∷ false ∷ [] }
 -- A session from the low four bits of a byte: bit k − 1 for client k.
 abbrev pub sessionOf : ℕ → Session
 sessionOf b = record { active = eqb (b % 2) 1 ∷ eqb (b / 2 % 2) 1 ∷ eqb (b / 4 % 2) 1 ∷ eqb (b / 8 % 2) 1 ∷ [] }
+
+-- What a mark adds to the byte.
+abbrev pub markWorth : Bool → ℕ → ℕ
+markWorth true worth = worth
+markWorth false worth = 0
+
+-- A session as a byte: 1, 2, 4 and 8 for the marks of clients 1 to 4.
+abbrev pub sessionByte : Session → ℕ
+sessionByte s =
+    markWorth (getD (s .active) 0 false) 1 + markWorth (getD (s .active) 1 false) 2
+    + markWorth (getD (s .active) 2 false) 4 + markWorth (getD (s .active) 3 false) 8
 
 -- "answers cut with the number of stores made .. Otherwise it answers done with that number"; a refusal has the table's number.
 pub data Answer : Type 0 where

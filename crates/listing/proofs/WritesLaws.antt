@@ -15,7 +15,7 @@ use Rattle.sector.specs.Contents.{Bytes}
 use Rattle.volume.specs.Listing.{digit, decimal}
 use Rattle.listing.specs.Writes.{Wrote}
 
-sets-append : (d e b : Bytes) (at : ℕ) → sets b at (d ++ e) ≡ sets (sets b at d) (at + length d) e
+pub sets-append : (d e b : Bytes) (at : ℕ) → sets b at (d ++ e) ≡ sets (sets b at d) (at + length d) e
 sets-append [] e b at = let z : at + 0 ≡ at = omega arith in rw z
 sets-append (x ∷ d) e b at =
     let s : at + suc (length d) ≡ suc at + length d = omega arith in

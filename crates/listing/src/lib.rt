@@ -4,8 +4,8 @@ mod text;
 
 use crate::lines::list_clients;
 use crate::lines::list_files;
-use crate::text::put;
 use soundness::is_sound;
+pub use text::put;
 ghost use mathlib.Core.Path.{_≡_};
 ghost use mathlib.Core.Bool.{true};
 ghost use Prim.Native.Nat.{_≤_};

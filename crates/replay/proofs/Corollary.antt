@@ -1,26 +1,70 @@
--- For every script, on a volume that format left: the decided content of the volume that `replay` leaves is the model's. That
--- `replay`, given a new session, leaves volume w and session q of the run over the script is its contract; here it is asked for.
-use mathlib.Core.Path.{_≡_}
-use mathlib.Core.List.{List, [], _∷_}
+-- All or none for what `format_and_replay` leaves: where the script was run, the events of the definitions' run are the ones whose
+-- bytes the transcript has, and they agree with the model that is fed with them.
+use mathlib.Core.Path.{_≡_, refl, sym, subst}
+use mathlib.Core.Bool.{Bool, true, false}
+use mathlib.Core.List.{List}
 use Prim.Native.Nat.{ℕ}
 use lib.ListN.{length}
 use Rattle.interface.specs.declared.Session.{Session}
-use Rattle.interface.specs.Answers.{formatDone}
+use Rattle.interface.specs.declared.Refusal.{Refusal}
+use Rattle.interface.specs.declared.FormatOutcome.{FormatOutcome}
+use Rattle.interface.specs.Answers.{newSession, FormatAnswer, formatDone, formatRefused}
+use Rattle.sector.specs.Lists.{if_then_else_}
 use Rattle.sector.specs.Contents.{Bytes, Table}
 use Rattle.sector.specs.Sectors.{Volume}
 use Rattle.volume.specs.Format.{tableFor, format}
-use Rattle.atomicity.specs.Runs.{Step, Run, started, stepped}
-use Rattle.atomicity.specs.AllOrNone.{ContentAgrees, Agrees}
-use Rattle.atomicity.proofs.Theorem.{all-or-none}
-use Rattle.replay.specs.Scripts.{steps, ranOver, runOf, IsLeft}
+use Rattle.format.specs.Outcomes.{formatted}
+use Rattle.atomicity.specs.Runs.{Run, started, ranOver}
+use Rattle.atomicity.specs.Transcripts.{Event, eventsOf}
+use Rattle.atomicity.proofs.TranscriptLaws.{transcripts-agree}
+use Rattle.replay.specs.declared.Ended.{Ended}
+use Rattle.replay.specs.declared.Replayed.{Replayed}
+use Rattle.replay.specs.Scripts.{steps}
+use Rattle.replay.specs.Transcripts.{transcript}
+use Rattle.replay.specs.Replays.{Left, noRoom, ran, replayAnswerOf, leftBy, hasRoom, runLeft, runFormatted, formattedAndRun, AllOrNoneFor, WhereRun}
+use Rattle.replay.proofs.TranscriptLaws.{front-is}
 
--- What agrees along a list agrees at its end.
-agrees-last : (t : Table) (r : Run) (xs : List Step) → Agrees t r xs → ContentAgrees t (ranOver r xs)
-agrees-last t r [] h = h
-agrees-last t r (x ∷ xs) h = agrees-last t (stepped r x) xs (h .2)
+-- What is claimed of what was left.
+abbrev pub Claimed : Table → (script : Bytes) → Left → Type 0
+Claimed t script x = WhereRun (x .answer) (AllOrNoneFor t script (x .volume) (x .out))
 
-pub replay-all-or-none : (v : Volume) (T : ℕ) (l : Bytes) → format v T l .answer ≡ formatDone → (script : Bytes) (w : Volume) (q : Session)
-    → let r = ranOver (started (format v T l .volume)) (steps script) in
-    IsLeft w q r → ContentAgrees (tableFor (length v) T l) (runOf w q (r .model))
-replay-all-or-none v T l d script w q e =
-    rw (e .0) (agrees-last (tableFor (length v) T l) (started (format v T l .volume)) (steps script) (all-or-none v T l d (steps script)))
+module _ (v : Volume) (T : ℕ) (l script out : Bytes) where
+  ran-claim : format v T l .answer ≡ formatDone → AllOrNoneFor (tableFor (length v) T l) script
+      (runLeft (started (format v T l .volume)) script out .volume) (runLeft (started (format v T l .volume)) script out .out)
+  unfolding runLeft
+  ran-claim d =
+      let r : Run = started (format v T l .volume) in
+      let es : List Event = eventsOf r (steps script) in
+      record { events = es; told = front-is out (transcript es); agrees = transcripts-agree v T l d (steps script) }
+
+  formatted-claim : (a : FormatAnswer) → format v T l .answer ≡ a
+      → Claimed (tableFor (length v) T l) script (runFormatted a (format v T l .volume) script out)
+  unfolding runLeft
+  formatted-claim formatDone d = ran-claim d
+  formatted-claim (formatRefused n) d = tt
+
+  -- For every array, clients, shape, script and buffer.
+  pub replay-all-or-none : Claimed (tableFor (length v) T l) script (formattedAndRun v T l script out)
+  replay-all-or-none = go (hasRoom script (length out))
+    where
+      go : (b : Bool) → Claimed (tableFor (length v) T l) script
+          (if b then runFormatted (format v T l .answer) (format v T l .volume) script out else record { answer = noRoom; session = newSession; volume = v; out = out })
+      go true = formatted-claim (format v T l .answer) refl
+      go false = tt
+
+  -- What was left is what the definition says, and so all or none is claimed of it.
+  pub claimed : (x : Replayed) (w out′ : Bytes) → leftBy x w out′ ≡ formattedAndRun v T l script out
+      → (leftBy x w out′ ≡ formattedAndRun v T l script out)
+      × WhereRun (replayAnswerOf (x .ended)) (AllOrNoneFor (tableFor (length v) T l) script w out′)
+  claimed x w out′ e = (e, subst (Claimed (tableFor (length v) T l) script) (sym e) replay-all-or-none)
+
+  -- The ways in which it ends: the format was refused, or the script was run on what it left.
+  module _ (o : FormatOutcome) (w : Volume) (f : formatted o w ≡ format v T l) (room : hasRoom script (length out) ≡ true) where
+    pub not-formatted : (x : Refusal) → o ≡ FormatOutcome.Refused x
+        → leftBy (record { ended = Ended.NotFormatted x; session = newSession }) w out ≡ formattedAndRun v T l script out
+    not-formatted x e = rw (room, ← f, e)
+
+    pub run-formatted : (q : Session) (w′ out′ : Bytes) → o ≡ FormatOutcome.Done
+        → record { answer = ran; session = q; volume = w′; out = out′ } ≡ runLeft (started w) script out
+        → leftBy (record { ended = Ended.Ran; session = q }) w′ out′ ≡ formattedAndRun v T l script out
+    run-formatted q w′ out′ e g = rw (room, ← f, e) g

@@ -1,2 +1,4 @@
 pub mod ScriptLaws
+pub mod TranscriptLaws
+pub mod RunLaws
 pub mod Corollary

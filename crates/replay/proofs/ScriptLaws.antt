@@ -1,58 +1,108 @@
--- The run after one step more, what a step leaves, and a buffer filled with a seed.
+-- The steps of a script, one by one: the first whole step, and then the steps behind it. How often one looks for a step doesn't
+-- matter, as long as it is as often as there are bytes. And the bytes of a step by their places in the script.
 use mathlib.Core.Path.{_≡_, refl, sym, ap, _∙_}
-use mathlib.Core.Bool.{Bool}
-use mathlib.Core.List.{List, [], _∷_, _++_, append-nil}
-use Prim.Native.Nat.{ℕ, _+_}
-use native.Mathlib.Numerals.{add-one}
-use lib.ListN.{length, drop, replicate}
-use lib.Seq.{drop-length}
-use Rattle.interface.specs.declared.Session.{Session}
-use Rattle.interface.specs.declared.Reply.{Reply}
+use mathlib.Core.Bool.{Bool, true, false, true≢false}
+use mathlib.Core.List.{List, [], _∷_}
+use Prim.Native.Nat.{ℕ, zero, suc, _+_, _*_, _-_, _≤_, _<_}
+use native.Mathlib.Omega.{arith}
+use borrow.Author.Tests.{le-leb, lt-leb, leb-true}
+use lib.Dec.{leb}
+use lib.ListN.{length, take, drop, getD, length-drop}
+use lib.Seq.{drop-drop, getD-drop}
+use Rattle.sector.specs.Lists.{if_then_else_}
 use Rattle.sector.specs.Contents.{Bytes}
-use Rattle.sector.specs.Sectors.{Volume}
-use Rattle.rules.specs.Plans.{Call}
-use Rattle.rules.specs.Calls.{After, call}
-use Rattle.calls.specs.Replies.{replied}
-use Rattle.atomicity.specs.Model.{Model}
-use Rattle.atomicity.specs.Runs.{Step, calls, reads, Run, given, stepped}
-use Rattle.replay.specs.Scripts.{seeded, stepAt, stepsBelow, ranOver, runOf, IsLeft}
+use Rattle.sector.specs.Sectors.{byte, word}
+use Rattle.sector.proofs.ListLaws.{and-left, and-right}
+use Rattle.atomicity.specs.Runs.{Step}
+use Rattle.commands.specs.Commands.{stepOf}
+use Rattle.replay.specs.Scripts.{commandIn, stepSize, isWhole, stepIn, stepsFrom, steps}
+use Rattle.replay.specs.Walks.{stepLength}
 
-ran-last : (r : Run) (xs : List Step) (x : Step) → ranOver r (xs ++ (x ∷ [])) ≡ stepped (ranOver r xs) x
-ran-last r [] x = refl
-ran-last r (y ∷ xs) x = ran-last (stepped r y) xs x
+-- ------------------------------------------------------------------ whole steps
+pub short-none : (l : Bytes) → length l < 8 → isWhole l ≡ false
+unfolding isWhole
+short-none l h = rw (lt-leb 8 (length l) h)
 
--- No step yet.
-pub left-none : (v : Volume) (s : Session) (l : Bytes) (m : Model) → IsLeft v s (ranOver (runOf v s m) (stepsBelow l 0))
-unfolding stepsBelow
-left-none v s l m = (refl, refl)
+pub cut-none : (l : Bytes) → 8 ≤ length l → length l < stepSize l → isWhole l ≡ false
+unfolding isWhole
+cut-none l h g = rw (le-leb 8 (length l) h, lt-leb (stepSize l) (length l) g)
 
--- A step more.
-pub left-more : (r : Run) (l : Bytes) (i : ℕ) (v w : Volume) (s q : Session) → IsLeft v s (ranOver r (stepsBelow l i))
-    → ((m : Model) → IsLeft w q (stepped (runOf v s m) (stepAt l i))) → IsLeft w q (ranOver r (stepsBelow l (i + 1)))
-unfolding stepsBelow
-left-more r l i v w s q h g =
-    let x : Run = ranOver r (stepsBelow l i) in
-    rw (add-one i, ran-last r (stepsBelow l i) (stepAt l i)) (rw (h .0, h .1) at (g (x .model)))
+pub fits-whole : (l : Bytes) → 8 ≤ length l → stepSize l ≤ length l → isWhole l ≡ true
+unfolding isWhole
+fits-whole l h g = rw (le-leb 8 (length l) h, le-leb (stepSize l) (length l) g)
 
--- What a call's reply says is what its step x leaves.
-pub left-call : (v w : Volume) (s g : Session) (crash : Bool) (c : Call) (budget : ℕ) (r : Reply) (m : Model) (x : Step) → x ≡ calls crash c budget
-    → g ≡ given crash s → replied r w ≡ call v g c budget → IsLeft w (r .session) (stepped (runOf v s m) x)
-unfolding stepped
-left-call v w s g crash c budget r m x d e h =
-    let k = rw e at h in
-    rw d (ap (λ (y : After). y .volume) k, ap (λ (y : After). y .session) k)
+-- The step of n bytes at the front is whole.
+pub record Whole (l : Bytes) (n : ℕ) : Type 0 where
+  pub isThere : isWhole l ≡ true
+  pub size : n ≡ stepSize l
+  pub head : 8 ≤ length l
+  pub inside : stepSize l ≤ length l
 
--- A read leaves what it finds.
-pub left-read : (v : Volume) (s : Session) (crash : Bool) (k f p : ℕ) (m : Model) (x : Step) → x ≡ reads crash k f p → IsLeft v s (stepped (runOf v s m) x)
-unfolding stepped
-left-read v s crash k f p m x d = rw d (refl, refl)
+whole-fits : (l : Bytes) → isWhole l ≡ true → Whole l (stepSize l)
+unfolding isWhole
+whole-fits l e = record {
+  isThere = e;
+  size = refl;
+  head = leb-true 8 (length l) (and-left (leb 8 (length l)) _ e);
+  inside = leb-true (stepSize l) (length l) (and-right (leb 8 (length l)) _ e);
+}
 
--- A buffer that is filled to its end.
-pub all-seeded : (start buf : Bytes) (seed i : ℕ) → length start ≡ 256 → i ≡ 256 → buf ≡ replicate i seed ++ drop i start → buf ≡ seeded seed
-unfolding seeded
-all-seeded start buf seed i h e f =
-    f
-    ∙ ap (λ (n : ℕ). replicate n seed ++ drop n start) (e ∙ sym h)
-    ∙ ap (λ (l : Bytes). replicate (length start) seed ++ l) (drop-length start)
-    ∙ append-nil (replicate (length start) seed)
-    ∙ ap (λ (n : ℕ). replicate n seed) h
+pub no-step : (l : Bytes) (n : ℕ) → n ≡ stepLength l → n ≡ 0 → isWhole l ≡ false
+unfolding stepLength
+no-step l n e z = go (isWhole l) refl
+  where
+    go : (b : Bool) → isWhole l ≡ b → b ≡ false
+    go false i = refl
+    go true i = absurd (differ (sym z ∙ e ∙ rw i))
+      where
+        differ : 0 ≡ stepSize l → ⊥
+        differ h = omega arith
+
+pub whole-step : (l : Bytes) (n : ℕ) → n ≡ stepLength l → 0 < n → Whole l n
+unfolding stepLength
+whole-step l n e p = go (isWhole l) refl
+  where
+    go : (b : Bool) → isWhole l ≡ b → Whole l n
+    go true i = let s : n ≡ stepSize l = e ∙ rw i in rw s (whole-fits l i)
+    go false i = let z : n ≡ 0 = e ∙ rw i in absurd (omega arith)
+
+-- ------------------------------------------------------------------ the steps of a script
+enough : (n m : ℕ) (l : Bytes) → length l ≤ n → length l ≤ m → stepsFrom n l ≡ stepsFrom m l
+unfolding stepsFrom
+enough zero zero l h g = refl
+enough zero (suc m) l h g = rw (short-none l (omega arith))
+enough (suc n) zero l h g = rw (short-none l (omega arith))
+enough (suc n) (suc m) l h g =
+    ap (λ (xs : List Step). if isWhole l then stepIn l ∷ xs else [])
+    (enough n m (drop (stepSize l) l) (omega (arith, length-drop (stepSize l) l)) (omega (arith, length-drop (stepSize l) l)))
+
+-- One look more finds nothing more.
+one-more : (l : Bytes) → steps l ≡ (if isWhole l then stepIn l ∷ stepsFrom (length l) (drop (stepSize l) l) else [])
+unfolding stepsFrom
+one-more l = enough (length l) (suc (length l)) l (omega arith) (omega arith)
+
+pub steps-none : (l : Bytes) → isWhole l ≡ false → steps l ≡ []
+steps-none l e = one-more l ∙ rw e
+
+pub steps-more : (l : Bytes) → isWhole l ≡ true → steps l ≡ stepIn l ∷ steps (drop (stepSize l) l)
+steps-more l e =
+    one-more l
+    ∙ rw e (ap (_∷_ (stepIn l)) (enough (length l) (length (drop (stepSize l) l)) (drop (stepSize l) l) (omega (arith, length-drop (stepSize l) l)) (omega arith)))
+
+-- The same for the steps from `at` on.
+pub steps-at : (l : Bytes) (at n : ℕ) → Whole (drop at l) n → steps (drop at l) ≡ stepIn (drop at l) ∷ steps (drop (at + n) l)
+steps-at l at n w =
+    steps-more (drop at l) (w .isThere)
+    ∙ rw (drop-drop (stepSize (drop at l)) at l, ← w .size)
+
+-- ------------------------------------------------------------------ the bytes of a step
+pub byte-at : (l : Bytes) (at i : ℕ) → byte (drop at l) i ≡ byte l (at + i)
+byte-at l at i = getD-drop at l i 0
+
+-- The step is its command with its data.
+pub step-data : (l : Bytes) (at n : ℕ) → Whole (drop at l) n
+    → stepIn (drop at l) ≡ stepOf (commandIn (drop at l)) (take (at + n - (at + 8)) (drop (at + 8) l))
+unfolding stepIn
+step-data l at n w =
+    let e : at + n - (at + 8) ≡ word (drop at l) 6 = omega (arith, w .size) in
+    rw (e, drop-drop)

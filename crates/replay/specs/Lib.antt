@@ -1,1 +1,4 @@
 pub mod Scripts
+pub mod Transcripts
+pub mod Replays
+pub mod Walks

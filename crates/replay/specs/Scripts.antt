@@ -1,58 +1,56 @@
--- Scripts: a list of steps as bytes. A step has 8 of them: kind, crash, client, file, page, budget, seed, and one that isn't
--- looked at.
-use mathlib.Core.Path.{_≡_}
-use mathlib.Core.Bool.{not}
-use mathlib.Core.List.{List, [], _∷_, _++_}
-use Prim.Native.Nat.{ℕ, zero, suc, _+_, _*_, _/_}
-use lib.Dec.{eqb}
-use lib.ListN.{length, replicate}
-use Rattle.interface.specs.declared.Session.{Session}
+-- Scripts: a list of steps as bytes. A step has 8 bytes, and then its data: which call, crash, client, file, page, budget, and the
+-- number of bytes of data, low byte first.
+use mathlib.Core.Bool.{Bool, not, _&&_}
+use mathlib.Core.List.{List, [], _∷_}
+use Prim.Native.Nat.{ℕ, zero, suc, _+_}
+use lib.Dec.{eqb, leb}
+use lib.ListN.{length, take, drop}
 use Rattle.sector.specs.Lists.{if_then_else_}
 use Rattle.sector.specs.Contents.{Bytes}
-use Rattle.sector.specs.Sectors.{Volume, byte}
-use Rattle.rules.specs.Plans.{begin, openFile, write, commit, abort}
-use Rattle.atomicity.specs.Model.{Model}
-use Rattle.atomicity.specs.Runs.{Step, calls, reads, Run, stepped}
+use Rattle.sector.specs.Sectors.{byte, word}
+use Rattle.atomicity.specs.Runs.{Step}
+use Rattle.commands.specs.declared.Action.{Action}
+use Rattle.commands.specs.declared.Command.{Command}
+use Rattle.commands.specs.Commands.{stepOf}
 
--- What is written: 256 times the seed. The call itself takes any bytes.
-unfoldable pub seeded : ℕ → Bytes
-seeded seed = replicate 256 seed
+-- 0 begin, 1 open, 2 write, 3 commit, 4 abort; any other is a read.
+abbrev pub actionOf : ℕ → Action
+actionOf n =
+    if eqb n 0 then Action.Begin
+    else if eqb n 1 then Action.Open
+    else if eqb n 2 then Action.Write
+    else if eqb n 3 then Action.Commit
+    else if eqb n 4 then Action.Abort
+    else Action.Read
 
--- Kinds 0 begin, 1 open, 2 write, 3 commit, 4 abort; any other is a read. `crash` other than 0: the step is given a new
--- session.
-abbrev pub stepOf : (kind crash client file page budget seed : ℕ) → Step
-stepOf kind crash k f p budget seed =
-    let new = not (eqb crash 0) in
-    if eqb kind 0 then calls new (begin k) budget
-    else if eqb kind 1 then calls new (openFile k f) budget
-    else if eqb kind 2 then calls new (write k f p (seeded seed)) budget
-    else if eqb kind 3 then calls new (commit k) budget
-    else if eqb kind 4 then calls new (abort k) budget
-    else reads new k f p
+-- The command of the step at the front. `crash` other than 0: it is given a new session.
+unfoldable pub commandIn : Bytes → Command
+commandIn l = record {
+  action = actionOf (byte l 0);
+  crash = not (eqb (byte l 1) 0);
+  client = byte l 2;
+  file = byte l 3;
+  page = byte l 4;
+  budget = byte l 5;
+}
 
--- The step with index i, which counts from 0.
-unfoldable pub stepAt : Bytes → ℕ → Step
-stepAt l i = stepOf
-    (byte l (8 * i)) (byte l (8 * i + 1)) (byte l (8 * i + 2)) (byte l (8 * i + 3)) (byte l (8 * i + 4)) (byte l (8 * i + 5)) (byte l (8 * i + 6))
+-- The bytes of the step at the front, with its data.
+abbrev pub stepSize : Bytes → ℕ
+stepSize l = 8 + word l 6
 
--- The first n steps.
-unfoldable pub stepsBelow : Bytes → ℕ → List Step
-stepsBelow l zero = []
-stepsBelow l (suc n) = stepsBelow l n ++ (stepAt l n ∷ [])
+-- A whole step stands at the front.
+unfoldable pub isWhole : Bytes → Bool
+isWhole l = leb 8 (length l) && leb (stepSize l) (length l)
+
+-- That step.
+unfoldable pub stepIn : Bytes → Step
+stepIn l = stepOf (commandIn l) (take (word l 6) (drop 8 l))
+
+-- The steps at the front, n at most.
+unfoldable pub stepsFrom : ℕ → Bytes → List Step
+stepsFrom zero l = []
+stepsFrom (suc n) l = if isWhole l then stepIn l ∷ stepsFrom n (drop (stepSize l) l) else []
 
 -- All steps of a script. Bytes at its end that are no whole step say nothing.
 abbrev pub steps : Bytes → List Step
-steps l = stepsBelow l (length l / 8)
-
--- The run after these steps, one after the other.
-abbrev pub ranOver : Run → List Step → Run
-ranOver r [] = r
-ranOver r (x ∷ xs) = ranOver (stepped r x) xs
-
--- A run with this volume, session and model.
-abbrev pub runOf : Volume → Session → Model → Run
-runOf v s m = record { volume = v; session = s; model = m }
-
--- The volume and the session are the run's.
-abbrev pub IsLeft : Volume → Session → Run → Type 0
-IsLeft v s r = (v ≡ r .volume) × (s ≡ r .session)
+steps l = stepsFrom (length l) l

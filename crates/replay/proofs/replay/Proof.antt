@@ -1,63 +1,59 @@
--- `replay` meets its contract: volume and session are those of the run over the first `i` steps.
-use mathlib.Core.Path.{_≡_, refl}
-use Prim.Native.Nat.{_-_, _/_, _≤_}
-use native.Mathlib.Omega.{arith}
+-- `replay` meets its contract, by the room that there is.
+use mathlib.Core.Path.{_≡_, sym, _∙_}
+use mathlib.Core.Bool.{true, false}
 use borrow.Author.Needs.{needs}
+use borrow.Author.Tests.{not-true, not-false}
 use lib.ListN.{length}
-use Rattle.atomicity.specs.Model.{Model}
-use Rattle.replay.specs.Scripts.{stepsBelow, ranOver, runOf, IsLeft}
-use Rattle.replay.proofs.ScriptLaws.{left-none, left-more}
+use Rattle.replay.specs.Replays.{hasRoom}
+use Rattle.replay.proofs.RunLaws.{room-fits}
 use Rattle.replay.proofs.replay.Statement.{statement}
 use Rattle.replay.proofs.replay.Tie as tie
 
-abbrev Inv-loop : tie.InvT-loop
-Inv-loop v₀ script n last₀ i₀ v last i =
-    (i ≤ n) × (length v ≡ length v₀) × ((m : Model) → IsLeft v last (ranOver (runOf v₀ last₀ m) (stepsBelow script i)))
+has-room-requires : tie.Need-has-room-requires
+has-room-requires c κs = search needs
 
-abbrev μ-loop : tie.MeasureT-loop
-μ-loop v₀ script n last₀ i₀ v last i = n - i
+hand-back-requires : tie.Need-hand-back-requires
+hand-back-requires c κs = search needs
 
-loop-holds : tie.Need-loop-holds Inv-loop μ-loop
-loop-holds c =
-    let a = c .before .before .args in
-    (omega arith, refl, left-none (a .v .now) (a .s) (a .script .now))
+returns : tie.Need-returns
+returns c =
+    let h = c .before .before in
+    let a = h .before .before .before .before .args in
+    let none : hasRoom (a .script .now) (length (a .out .now)) ≡ false = sym (h .has-room .ensures) ∙ not-true _ (c .before .if1 .taken) in
+    λ m. rw (none, c .hand-back .ensures)
 
-step-requires : tie.Need-step-requires Inv-loop μ-loop
-step-requires c κs = search needs
+run-steps-requires : tie.Need-run-steps-requires
+run-steps-requires c κs =
+    let e = c .before .before in
+    let a = e .before .before .before .before .before .args in
+    room-fits (a .script .now) (length (a .out .now)) (sym (e .before .has-room .ensures) ∙ not-false _ (e .if1 .left))
 
-add-i : tie.Need-add-i Inv-loop μ-loop
-add-i c = search needs
+hand-back-requires-2 : tie.Need-hand-back-requires-2
+hand-back-requires-2 c κs = search needs
 
-loop-less : tie.Need-loop-less Inv-loop μ-loop
-loop-less c = omega arith
-
-loop-again : tie.Need-loop-again Inv-loop μ-loop
-loop-again c =
-    let st = c .before .before in
-    let at = st .before .before .before in
-    let a = at .before .before .before .args in
-    (omega arith, search needs, λ m. left-more (runOf (a .v .now) (a .s) m) (a .script .now) (at .loop .i) (at .loop .v) (st .step .last .0) (at .loop .last) (st .step .result) (at .loop .inv .2 m) (st .step .ensures))
-
-same-length : tie.Need-same-length Inv-loop μ-loop
+same-length : tie.Need-same-length
 same-length c = search needs
 
-returns : tie.Need-returns Inv-loop μ-loop
-returns c =
-    let at = c .before in
-    let l = at .before .before .before .args .script .now in
-    let e : at .loop .i ≡ length l / 8 = omega arith in
-    rw e at (at .loop .inv .2)
+same-length-2 : tie.Need-same-length-2
+same-length-2 c = search needs
+
+returns-2 : tie.Need-returns-2
+returns-2 c =
+    let r = c .before .before .before .before .before in
+    let e = r .before .before .before in
+    let a = e .before .before .before .before .before .args in
+    let room : hasRoom (a .script .now) (length (a .out .now)) ≡ true = sym (e .before .has-room .ensures) ∙ not-false _ (e .if1 .left) in
+    λ m. rw (room, c .hand-back2 .ensures) (r .run-steps .ensures m)
 
 pub replay-spec : {M : Type 1} → statement M
 replay-spec =
     tie.close
     (tie.spec
-    Inv-loop
-    μ-loop
-    loop-holds
-    step-requires
-    add-i
-    loop-less
-    loop-again
+    has-room-requires
+    hand-back-requires
+    returns
+    run-steps-requires
+    hand-back-requires-2
     same-length
-    returns)
+    same-length-2
+    returns-2)

@@ -1,0 +1,224 @@
+-- The entries of a transcript: how long each is, whatever a step says, and that what is noted of a command is what its step says.
+use mathlib.Core.Path.{_≡_, refl, sym, ap, subst, _∙_}
+use mathlib.Core.Bool.{Bool, true, false}
+use mathlib.Core.List.{List, [], _∷_, _++_, append-nil}
+use Prim.Native.Nat.{ℕ, suc, _+_, _*_, _-_, _/_, _%_, _≤_, _<_}
+use native.Mathlib.Numerals.{add-one}
+use native.Mathlib.Omega.{arith}
+use lib.ListN.{length, take, drop, set, replicate, length-append, length-take, length-replicate}
+use lib.Seq.{sets, sets-eq, length-sets, take-at, getD-drop}
+use Rattle.interface.specs.declared.Session.{Session}
+use Rattle.interface.specs.declared.Refusal.{Refusal}
+use Rattle.interface.specs.declared.Outcome.{Outcome}
+use Rattle.interface.specs.declared.ReadOutcome.{ReadOutcome}
+use Rattle.interface.specs.Answers.{sessionByte, Answer, done, crashed, refused, ReadAnswer, found, readRefused, refusalNumber, answerOf, readAnswerOf}
+use Rattle.sector.specs.Contents.{Bytes}
+use Rattle.sector.specs.Sectors.{Volume, sector, byte, word, padded, zeroSector}
+use Rattle.sector.proofs.SectorLaws.{sector-length}
+use Rattle.calls.proofs.PageLaws.{Inside, read-inside}
+use Rattle.rules.specs.Calls.{call, read, partOf, readPart}
+use Rattle.listing.specs.Writes.{Wrote, atFront}
+use Rattle.atomicity.specs.Model.{Model}
+use Rattle.atomicity.specs.Runs.{Step, calls, reads, Run, given, stepped}
+use Rattle.atomicity.specs.Transcripts.{StepAnswer, ofCall, ofRead, Event, eventOf, eventsOf}
+use Rattle.commands.specs.declared.Action.{Action}
+use Rattle.commands.specs.declared.Command.{Command}
+use Rattle.commands.specs.declared.Told.{Told}
+use Rattle.commands.specs.declared.Performed.{Performed}
+use Rattle.commands.specs.Commands.{stepBy, stepOf, toldOf, runOf, IsPerformed}
+use Rattle.commands.proofs.CommandLaws.{step-by}
+use Rattle.replay.specs.Scripts.{actionOf, commandIn, stepIn}
+use Rattle.replay.specs.Transcripts.{headBytes, answerBytes, pageBytes, entryOf, transcript, entryLength, transcriptLength}
+use Rattle.replay.specs.Walks.{actionLength, noted, IsAnswer}
+
+-- ------------------------------------------------------------------ lengths
+head-length : (k n : ℕ) (s : Session) → length (headBytes k n s) ≡ 4
+unfolding headBytes
+head-length k n s = refl
+
+pub answer-length : (x : StepAnswer) (s : Session) → length (answerBytes x s) ≡ 4
+answer-length (ofCall (done n)) s = head-length 0 n s
+answer-length (ofCall (crashed n)) s = head-length 1 n s
+answer-length (ofCall (refused n)) s = head-length 2 n s
+answer-length (ofRead (found n)) s = head-length 3 n s
+answer-length (ofRead (readRefused n)) s = head-length 2 n s
+
+padded-length : (l : Bytes) → length l ≤ 256 → length (padded l) ≡ 256
+unfolding padded
+padded-length l h = simp (length-append, length-replicate) (omega arith)
+
+part-length : (v : Volume) (x : ReadAnswer) → length (partOf v x) ≤ 256
+unfolding sector
+part-length v (found n) = omega (arith, length-take 256 (drop (256 * n) v))
+part-length v (readRefused n) = omega arith
+
+pub call-length : (x : Answer) (s : Session) (b d : Bytes)
+    → length (entryOf (record { answer = ofCall x; session = s; bytes = b; part = d })) ≡ 4
+unfolding entryOf
+call-length x s b d = length-append (answerBytes (ofCall x) s) [] ∙ omega (arith, answer-length (ofCall x) s)
+
+pub read-length : (x : ReadAnswer) (s : Session) (b d : Bytes) → length b ≤ 256 → length d ≤ 256
+    → length (entryOf (record { answer = ofRead x; session = s; bytes = b; part = d })) ≡ 516
+unfolding entryOf
+read-length x s b d h g =
+    length-append (answerBytes (ofRead x) s) (padded b ++ padded d)
+    ∙ omega (arith, answer-length (ofRead x) s, length-append (padded b) (padded d), padded-length b h, padded-length d g)
+
+pub entry-length : (r : Run) (x : Step) → length (entryOf (eventOf r x)) ≡ entryLength x
+entry-length r (calls crash c budget) = call-length _ _ [] []
+entry-length r (reads crash k f p) =
+    let a = read (r .volume) (given crash (r .session)) k f p in
+    read-length a (r .session) (partOf (r .volume) a) (partOf (r .volume) a) (part-length (r .volume) a) (part-length (r .volume) a)
+
+pub transcript-length : (r : Run) (xs : List Step) → length (transcript (eventsOf r xs)) ≡ transcriptLength xs
+transcript-length r [] = refl
+transcript-length r (x ∷ xs) =
+    length-append (entryOf (eventOf r x)) (transcript (eventsOf (stepped r x) xs))
+    ∙ omega (arith, entry-length r x, transcript-length (stepped r x) xs)
+
+-- A text that fits stands at the front.
+pub sets-front : (out d : Bytes) → length d ≤ length out → sets out 0 d ≡ atFront d out
+sets-front out d h =
+    let z : 0 + length d ≡ length d = omega arith in
+    sets-eq d out 0 (omega arith) ∙ rw z
+
+pub front-is : (out d : Bytes) → take (length d) (atFront d out) ≡ d
+front-is out d = take-at d (drop (length d) out) (length d) refl
+
+-- A sector needs no padding, and nothing is padded to zeros.
+pub padded-page : (l : Bytes) → length l ≡ 256 → padded l ≡ l
+unfolding padded
+padded-page l h =
+    let z : 256 - length l ≡ 0 = omega arith in
+    rw z (append-nil l)
+
+-- ------------------------------------------------------------------ what is noted of a command
+noted-call : (v : Volume) (s : Session) (c : Command) (t : Told) (q : Session) (x : Answer) → toldOf t ≡ ofCall x
+    → noted v s c t q ≡ record { answer = ofCall x; session = q; bytes = []; part = [] }
+noted-call v s c (Told.Call o) q x e = rw e
+noted-call v s c (Told.Read o) q x e = cc
+
+noted-read : (v : Volume) (s : Session) (c : Command) (t : Told) (q : Session) (x : ReadAnswer) → toldOf t ≡ ofRead x
+    → noted v s c t q ≡ record {
+      answer = ofRead x;
+      session = q;
+      bytes = partOf v x;
+      part = readPart v (given (c .crash) s) (c .client) (c .file) (c .page);
+    }
+noted-read v s c (Told.Read o) q x e =
+    let a : readAnswerOf o ≡ x = cc in
+    rw a
+noted-read v s c (Told.Call o) q x e = cc
+
+is-answer : (v : Volume) (s : Session) (c : Command) (t : Told)
+    → toldOf t ≡ ofRead (read v (given (c .crash) s) (c .client) (c .file) (c .page)) → IsAnswer v s c t
+is-answer v s c (Told.Read o) e = cc
+is-answer v s c (Told.Call o) e = tt
+
+any-call : (v : Volume) (s : Session) (c : Command) (t : Told) (x : Answer) → toldOf t ≡ ofCall x → IsAnswer v s c t
+any-call v s c (Told.Call o) x e = tt
+any-call v s c (Told.Read o) x e = absurd (clash (cc))
+  where
+    clash : _≡_ {A = ℕ} 0 1 → ⊥
+    clash h = omega arith
+
+-- What is noted of a command that was performed is what its step says, and the answer is its read's.
+pub record IsNoted (r : Run) (x : Step) (w : Volume) (s : Session) (c : Command) (p : Performed) : Type 0 where
+  pub event : noted w s c (p .told) (p .session) ≡ eventOf r x
+  pub answer : IsAnswer w s c (p .told)
+
+module _ (v w : Volume) (s : Session) (m : Model) (c : Command) (d : Bytes) (p : Performed) where
+  by-action : (a : Action) → IsPerformed (runOf v s m) (stepBy a c d) p w → IsNoted (runOf v s m) (stepBy a c d) w s c p
+  unfolding stepped
+  by-action Action.Begin h = record { event = noted-call w s c (p .told) (p .session) _ (h .answer) ∙ rw (h .session); answer = any-call w s c (p .told) _ (h .answer) }
+  by-action Action.Open h = record { event = noted-call w s c (p .told) (p .session) _ (h .answer) ∙ rw (h .session); answer = any-call w s c (p .told) _ (h .answer) }
+  by-action Action.Write h = record { event = noted-call w s c (p .told) (p .session) _ (h .answer) ∙ rw (h .session); answer = any-call w s c (p .told) _ (h .answer) }
+  by-action Action.Commit h = record { event = noted-call w s c (p .told) (p .session) _ (h .answer) ∙ rw (h .session); answer = any-call w s c (p .told) _ (h .answer) }
+  by-action Action.Abort h = record { event = noted-call w s c (p .told) (p .session) _ (h .answer) ∙ rw (h .session); answer = any-call w s c (p .told) _ (h .answer) }
+  by-action Action.Read h = record {
+    event = noted-read w s c (p .told) (p .session) _ (h .answer) ∙ rw (h .session, h .volume);
+    answer = is-answer w s c (p .told) (rw (h .volume) (h .answer));
+  }
+
+  pub is-noted : IsPerformed (runOf v s m) (stepOf c d) p w → IsNoted (runOf v s m) (stepOf c d) w s c p
+  is-noted h = rw (step-by c d (c .action) refl) (by-action (c .action) (rw (step-by c d (c .action) refl) at h))
+
+-- ------------------------------------------------------------------ entries in code
+-- What was told, and the room that its entry takes.
+module _ (v : Volume) (s : Session) (c : Command) (t : Told) (q : Session) where
+  pub call-entry : (o : Outcome) → t ≡ Told.Call o → answerBytes (ofCall (answerOf o)) q ≡ entryOf (noted v s c t q)
+  unfolding entryOf
+  call-entry o e = rw e (sym (append-nil (answerBytes (ofCall (answerOf o)) q)))
+
+  pub call-room : (o : Outcome) → t ≡ Told.Call o → length (entryOf (noted v s c t q)) ≡ 4
+  call-room o e = rw e (call-length (answerOf o) q [] [])
+
+  pub read-room : (o : ReadOutcome) → t ≡ Told.Read o → length (entryOf (noted v s c t q)) ≡ 516
+  read-room o e = rw e (read-length (readAnswerOf o) q _ _ (part-length v (readAnswerOf o)) (part-length v (read v (given (c .crash) s) (c .client) (c .file) (c .page))))
+
+  pub read-answer : (o : ReadOutcome) → t ≡ Told.Read o → IsAnswer v s c t
+      → readAnswerOf o ≡ read v (given (c .crash) s) (c .client) (c .file) (c .page)
+  read-answer o e a = rw e at a
+
+by-length : (a : Action) (c : Command) (d : Bytes) → actionLength a ≡ entryLength (stepBy a c d)
+by-length Action.Begin c d = refl
+by-length Action.Open c d = refl
+by-length Action.Write c d = refl
+by-length Action.Commit c d = refl
+by-length Action.Abort c d = refl
+by-length Action.Read c d = refl
+
+-- The entry of the step at the front, by its first byte.
+pub step-entry : (l : Bytes) → actionLength (actionOf (byte l 0)) ≡ entryLength (stepIn l)
+unfolding stepIn commandIn stepOf
+step-entry l = by-length (actionOf (byte l 0)) (commandIn l) (take (word l 6) (drop 8 l))
+
+-- The length of the entry of the step at `at`, as it is computed from the step's first byte.
+pub entry-is : (at : ℕ) (l : Bytes) {a : Action} {e : ℕ} → a ≡ actionOf (byte l at) → e ≡ actionLength a → e ≡ entryLength (stepIn (drop at l))
+entry-is at l i j =
+    let z : at + 0 ≡ at = omega arith in
+    let y : byte l at ≡ byte (drop at l) 0 = rw (getD-drop at l 0 0, z) in
+    j ∙ ap actionLength (i ∙ ap actionOf y) ∙ step-entry (drop at l)
+
+-- The four bytes, one after the other.
+pub wrote-head : (b : Bytes) (at kind n : ℕ) (s : Session) (x y z : ℕ) → x ≡ n % 256 → y ≡ n / 256 % 256 → z ≡ sessionByte s → n < 65536
+    → Wrote b at (headBytes kind n s) (set (set (set (set b at kind) (at + 1) x) (at + 2) y) (at + 3) z) (at + 4)
+unfolding headBytes
+wrote-head b at kind n s x y z e f g h =
+    let y′ : y ≡ n / 256 = omega arith in
+    let two : at + 2 ≡ suc (suc at) = omega arith in
+    let three : at + 3 ≡ suc (suc (suc at)) = omega arith in
+    record { bytes = rw (e, y′, g, add-one at, two, three); next = refl }
+
+-- What was written has kept the length of the buffer.
+pub wrote-length : {b d c : Bytes} {at n : ℕ} → Wrote b at d c n → length c ≡ length b
+wrote-length {b} {d} {c} {at} w = ap length (w .bytes) ∙ length-sets b at d
+
+pub behind-head : (k n : ℕ) (s : Session) {b c : Bytes} {at m : ℕ} → Wrote b at (headBytes k n s) c m → m ≡ at + 4
+behind-head k n s {b} {c} {at} w = w .next ∙ ap (λ (i : ℕ). at + i) (head-length k n s)
+
+-- A read's entry, by its outcome.
+module _ (v : Volume) (s : Session) (c : Command) (o : ReadOutcome) (q : Session)
+    (a : readAnswerOf o ≡ read v (given (c .crash) s) (c .client) (c .file) (c .page)) where
+  pub refused-entry : (r : Refusal) → o ≡ ReadOutcome.Refused r
+      → headBytes 2 (refusalNumber r) q ++ (padded [] ++ padded []) ≡ entryOf (noted v s c (Told.Read o) q)
+  unfolding entryOf
+  refused-entry r e = rw (← a, e)
+
+  pub inside-found : (n : ℕ) → o ≡ ReadOutcome.Sector n → (256 * n + 256 ≤ length v) × (n ≤ 65536)
+  inside-found n e = subst (Inside v) (sym a ∙ ap readAnswerOf e) (read-inside v (given (c .crash) s) (c .client) (c .file) (c .page))
+
+  pub found-entry : (n : ℕ) → o ≡ ReadOutcome.Sector n
+      → headBytes 3 n q ++ (sector v n ++ readPart v (given (c .crash) s) (c .client) (c .file) (c .page)) ≡ entryOf (noted v s c (Told.Read o) q)
+  unfolding entryOf
+  found-entry n e =
+      let size : length (sector v n) ≡ 256 = sector-length v n (inside-found n e .0) in
+      rw (← a, e, padded-page (sector v n) size)
+
+pub shown-length : (v : Volume) (s : Session) (k f p : ℕ) → length (readPart v s k f p) ≤ 256
+shown-length v s k f p = part-length v (read v s k f p)
+
+-- Nothing is padded to zeros.
+pub zeros-padded : padded [] ≡ zeroSector
+unfolding padded zeroSector
+zeros-padded = refl

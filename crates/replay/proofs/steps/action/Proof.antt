@@ -1,0 +1,27 @@
+-- `action` meets its contract, by the number.
+use borrow.Author.Tests.{eq-eqb, ne-eqb}
+use Rattle.replay.proofs.steps.action.Statement.{statement}
+use Rattle.replay.proofs.steps.action.Tie as tie
+
+returns : tie.Need-returns
+returns c = rw (c .match .keys1)
+
+returns-2 : tie.Need-returns-2
+returns-2 c = rw (c .match .keys2)
+
+returns-3 : tie.Need-returns-3
+returns-3 c = rw (c .match .keys3)
+
+returns-4 : tie.Need-returns-4
+returns-4 c = rw (c .match .keys4)
+
+returns-5 : tie.Need-returns-5
+returns-5 c = rw (c .match .keys5)
+
+returns-6 : tie.Need-returns-6
+returns-6 c =
+    let r = c .match .rest in
+    rw (ne-eqb _ _ (r .0 .0 .0 .0 .1), ne-eqb _ _ (r .0 .0 .0 .1), ne-eqb _ _ (r .0 .0 .1), ne-eqb _ _ (r .0 .1), ne-eqb _ _ (r .1))
+
+pub action-spec : {M : Type 1} → statement M
+action-spec = tie.close (tie.spec returns returns-2 returns-3 returns-4 returns-5 returns-6)

@@ -1,0 +1,93 @@
+-- `has_room` meets its contract: the room that is left decides, for the steps that are left.
+use mathlib.Core.Path.{_≡_, refl, sym, ap, _∙_}
+use mathlib.Core.Bool.{true, false}
+use Prim.Native.Nat.{_+_, _-_, _≤_}
+use native.Mathlib.Omega.{arith}
+use borrow.Author.Needs.{needs}
+use borrow.Author.Tests.{le-leb}
+use lib.Dec.{leb}
+use lib.ListN.{length, drop, length-drop}
+use Rattle.replay.specs.Scripts.{steps}
+use Rattle.replay.specs.Transcripts.{transcriptLength}
+use Rattle.replay.specs.Replays.{hasRoom}
+use Rattle.replay.specs.Walks.{stepLength}
+use Rattle.replay.proofs.ScriptLaws.{Whole, whole-step, no-step}
+use Rattle.replay.proofs.TranscriptLaws.{entry-is}
+use Rattle.replay.proofs.RunLaws.{room-left, room-over, room-none}
+use Rattle.replay.proofs.steps.has_room.Statement.{statement}
+use Rattle.replay.proofs.steps.has_room.Tie as tie
+
+abbrev Inv-loop : tie.InvT-loop
+Inv-loop script room left₀ at₀ n₀ left at n =
+    (at + n ≤ length script) × (n ≡ stepLength (drop at script)) × (hasRoom script room ≡ leb (transcriptLength (steps (drop at script))) left)
+
+abbrev μ-loop : tie.MeasureT-loop
+μ-loop script room left₀ at₀ n₀ left at n = length script - at
+
+step-length-requires : tie.Need-step-length-requires Inv-loop μ-loop
+step-length-requires c κs = search needs
+
+loop-holds : tie.Need-loop-holds Inv-loop μ-loop
+unfolding hasRoom
+loop-holds c = (c .step-length .ensures .1, c .step-length .ensures .0, refl)
+
+shared-slice-read-action : tie.Need-shared-slice-read-action Inv-loop μ-loop
+shared-slice-read-action c =
+    let l = c .before .before in
+    let w = whole-step (drop (l .loop .at) (l .before .before .before .args .script .now)) (l .loop .n) (l .loop .inv .1) (omega arith) in
+    omega (arith, w .head, length-drop (l .loop .at) (l .before .before .before .args .script .now))
+
+action-requires : tie.Need-action-requires Inv-loop μ-loop
+action-requires c κs = search needs
+
+entry-length-requires : tie.Need-entry-length-requires Inv-loop μ-loop
+entry-length-requires c κs = search needs
+
+returns : tie.Need-returns Inv-loop μ-loop
+returns c =
+    let e = c .before in
+    let l = e .before .before .before .before in
+    let s = l .before .before .before .args .script .now in
+    let w = whole-step (drop (l .loop .at) s) (l .loop .n) (l .loop .inv .1) (omega arith) in
+    sym (l .loop .inv .2 ∙ room-over s (l .loop .at) (l .loop .n) (l .loop .left) (e .entry-length .result) w (entry-is (l .loop .at) s (e .before .action .ensures) (e .entry-length .ensures)) (omega arith))
+
+add-at : tie.Need-add-at Inv-loop μ-loop
+add-at c = search needs
+
+step-length-requires-2 : tie.Need-step-length-requires-2 Inv-loop μ-loop
+step-length-requires-2 c κs = search needs
+
+loop-less : tie.Need-loop-less Inv-loop μ-loop
+loop-less c = search needs
+
+loop-again : tie.Need-loop-again Inv-loop μ-loop
+loop-again c =
+    let e = c .before .before in
+    let l = e .before .before .before .before in
+    let s = l .before .before .before .args .script .now in
+    let w = whole-step (drop (l .loop .at) s) (l .loop .n) (l .loop .inv .1) (omega arith) in
+    (c .step-length2 .ensures .1, c .step-length2 .ensures .0, l .loop .inv .2 ∙ room-left s (l .loop .at) (l .loop .n) (l .loop .left) (e .entry-length .result) w (entry-is (l .loop .at) s (e .before .action .ensures) (e .entry-length .ensures)) (omega arith))
+
+returns-2 : tie.Need-returns-2 Inv-loop μ-loop
+returns-2 c =
+    let l = c .before in
+    let s = l .before .before .before .args .script .now in
+    sym (l .loop .inv .2 ∙ room-none s (l .loop .at) (l .loop .left) (no-step (drop (l .loop .at) s) (l .loop .n) (l .loop .inv .1) (omega arith)))
+
+pub has-room-spec : {M : Type 1} → statement M
+has-room-spec =
+    tie.close
+    (tie.spec
+    Inv-loop
+    μ-loop
+    step-length-requires
+    loop-holds
+    shared-slice-read-action
+    action-requires
+    entry-length-requires
+    returns
+    add-at
+    step-length-requires-2
+    loop-less
+    loop-again
+    returns-2)

@@ -1,0 +1,48 @@
+-- Transcripts: what the steps of a script said, as bytes, an entry for each step, one after the other. An entry begins with four
+-- bytes: 0 done, 1 cut, 2 refused or 3 a sector; the number beside it, low byte first; and the session last handed back, bit k − 1
+-- for client k. A read's entry goes on with the 256 bytes of the sector that it answered and the 256 bytes of the part that it
+-- handed back, zeros where it was refused.
+use mathlib.Core.List.{List, [], _∷_, _++_}
+use Prim.Native.Nat.{ℕ, _+_}
+use Rattle.interface.specs.declared.Session.{Session}
+use Rattle.interface.specs.Answers.{sessionByte, done, crashed, refused, found, readRefused}
+use Rattle.sector.specs.Contents.{Bytes}
+use Rattle.sector.specs.Sectors.{wordBytes, padded}
+use Rattle.atomicity.specs.Runs.{Step, calls, reads}
+use Rattle.atomicity.specs.Transcripts.{StepAnswer, ofCall, ofRead, Event}
+
+-- The four bytes.
+unfoldable pub headBytes : (kind : ℕ) → (number : ℕ) → Session → Bytes
+headBytes kind number s = kind ∷ wordBytes number (sessionByte s ∷ [])
+
+-- An answer and the session.
+abbrev pub answerBytes : StepAnswer → Session → Bytes
+answerBytes (ofCall (done n)) s = headBytes 0 n s
+answerBytes (ofCall (crashed n)) s = headBytes 1 n s
+answerBytes (ofCall (refused n)) s = headBytes 2 n s
+answerBytes (ofRead (found n)) s = headBytes 3 n s
+answerBytes (ofRead (readRefused n)) s = headBytes 2 n s
+
+-- What a read shows.
+abbrev pub pageBytes : StepAnswer → (bytes : Bytes) → (part : Bytes) → Bytes
+pageBytes (ofCall x) bytes part = []
+pageBytes (ofRead x) bytes part = padded bytes ++ padded part
+
+-- The entry of what a step said.
+unfoldable pub entryOf : Event → Bytes
+entryOf e = answerBytes (e .answer) (e .session) ++ pageBytes (e .answer) (e .bytes) (e .part)
+
+-- The transcript of what the steps said.
+abbrev pub transcript : List Event → Bytes
+transcript [] = []
+transcript (e ∷ es) = entryOf e ++ transcript es
+
+-- The length of a step's entry.
+abbrev pub entryLength : Step → ℕ
+entryLength (calls crash c budget) = 4
+entryLength (reads crash k f p) = 516
+
+-- The length of the transcript of these steps, whatever they say.
+abbrev pub transcriptLength : List Step → ℕ
+transcriptLength [] = 0
+transcriptLength (x ∷ xs) = entryLength x + transcriptLength xs

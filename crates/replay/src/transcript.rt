@@ -1,0 +1,108 @@
+// The entries of a transcript, each written at a place of the buffer. What is handed back is the place behind it.
+use commands::Command;
+use commands::Told;
+use interface::Outcome;
+use interface::ReadOutcome;
+use interface::Session;
+use listing::put;
+use sector::low;
+use sector::size;
+ghost use mathlib.Core.Path.{_≡_};
+ghost use mathlib.Core.List.{[], _++_};
+ghost use Prim.Native.Nat.{_+_, _≤_, _<_};
+ghost use lib.ListN.{length};
+ghost use Rattle.interface.specs.Answers.{answerOf, readAnswerOf};
+ghost use Rattle.sector.specs.Sectors.{padded};
+ghost use Rattle.rules.specs.Calls.{read};
+ghost use Rattle.listing.specs.Writes.{Wrote};
+ghost use Rattle.atomicity.specs.Runs.{given};
+ghost use Rattle.atomicity.specs.Transcripts.{ofCall};
+ghost use Rattle.commands.specs.declared.Told.{Told};
+ghost use Rattle.replay.specs.Transcripts.{headBytes, answerBytes, entryOf};
+ghost use Rattle.replay.specs.Walks.{noted, IsAnswer};
+
+// The four bytes that an entry begins with.
+fn put_head(out: &mut [u8], at: usize, kind: u8, number: usize, s: Session) -> usize
+    requires { ⌜ (at + 4 ≤ length (now out)) × (number < 65536) ⌝ }
+    ensures { λ r. ⌜ Wrote (now (out .entry)) at (headBytes kind number s) (now (out .exit)) r ⌝ }
+{
+    out[at] = kind;
+    out[at + 1] = low(number);
+    out[at + 2] = low(number / 256);
+    out[at + 3] = interface::session_byte(s);
+    at + 4
+}
+
+// A call's answer.
+fn put_outcome(out: &mut [u8], at: usize, o: Outcome, s: Session) -> usize
+    requires { ⌜ at + 4 ≤ length (now out) ⌝ }
+    ensures { λ r. ⌜ Wrote (now (out .entry)) at (answerBytes (ofCall (answerOf o)) s) (now (out .exit)) r ⌝ }
+{
+    match o {
+        Outcome::Done(n) => put_head(out, at, 0, size(n), s),
+        Outcome::Crashed(n) => put_head(out, at, 1, size(n), s),
+        Outcome::Refused(r) => put_head(out, at, 2, size(interface::number(r)), s),
+    }
+}
+
+// Two pages of zeros, where a read showed nothing.
+fn put_nothing(out: &mut [u8], at: usize) -> usize
+    requires { ⌜ at + 512 ≤ length (now out) ⌝ }
+    ensures { λ r. ⌜ Wrote (now (out .entry)) at (padded [] ++ padded []) (now (out .exit)) r ⌝ }
+{
+    let zeros = sector::zeros();
+    let next = put(out, at, &zeros);
+    put(out, next, &zeros)
+}
+
+// A number of a sector for sums.
+fn wide(n: u16) -> usize
+    ensures { λ r. ⌜ (r ≡ n) × (r < 65536) ⌝ }
+{
+    n as usize
+}
+
+// A read's answer, the bytes of the sector answered, and the part handed back.
+fn put_read(
+    v: &[u8],
+    s: Session,
+    c: Command,
+    o: ReadOutcome,
+    q: Session,
+    out: &mut [u8],
+    at: usize,
+) -> usize
+    requires { ⌜ (at + 516 ≤ length (now out)) × (readAnswerOf o ≡ read (now v) (given (c .crash) s) (c .client) (c .file) (c .page)) ⌝ }
+    ensures { λ r. ⌜ Wrote (now (out .entry)) at (entryOf (noted (now (v .entry)) s c (Told.Read o) q)) (now (out .exit)) r ⌝ }
+{
+    match o {
+        ReadOutcome::Refused(r) => {
+            let next = put_head(out, at, 2, size(interface::number(r)), q);
+            put_nothing(out, next)
+        }
+        ReadOutcome::Sector(n) => {
+            let next = put_head(out, at, 3, wide(n), q);
+            let behind = put(out, next, sector::part(v, wide(n)));
+            put(out, behind, commands::page(v, s, c))
+        }
+    }
+}
+
+// The entry of a command that answered so: s is the session before it, q the one last handed back after it.
+pub fn put_entry(
+    v: &[u8],
+    s: Session,
+    c: Command,
+    told: Told,
+    q: Session,
+    out: &mut [u8],
+    at: usize,
+) -> usize
+    requires { ⌜ (at + length (entryOf (noted (now v) s c told q)) ≤ length (now out)) × IsAnswer (now v) s c told ⌝ }
+    ensures { λ r. ⌜ Wrote (now (out .entry)) at (entryOf (noted (now (v .entry)) s c told q)) (now (out .exit)) r ⌝ }
+{
+    match told {
+        Told::Call(o) => put_outcome(out, at, o, q),
+        Told::Read(o) => put_read(v, s, c, o, q, out, at),
+    }
+}
