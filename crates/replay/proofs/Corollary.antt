@@ -1,10 +1,10 @@
--- All or none for what `format_and_replay` leaves: where the script was run, the events of the definitions' run are the ones whose
--- bytes the transcript has, and they agree with the model that is fed with them.
+-- All or none for what `format_and_replay` leaves: where the script was run, the transcript says what the definitions' run says,
+-- and that agrees with the model that is fed with it.
 use mathlib.Core.Path.{_≡_, refl, sym, subst}
 use mathlib.Core.Bool.{Bool, true, false}
 use mathlib.Core.List.{List}
 use Prim.Native.Nat.{ℕ}
-use lib.ListN.{length}
+use lib.ListN.{length, drop}
 use Rattle.interface.specs.declared.Session.{Session}
 use Rattle.interface.specs.declared.Refusal.{Refusal}
 use Rattle.interface.specs.declared.FormatOutcome.{FormatOutcome}
@@ -14,15 +14,15 @@ use Rattle.sector.specs.Contents.{Bytes, Table}
 use Rattle.sector.specs.Sectors.{Volume}
 use Rattle.volume.specs.Format.{tableFor, format}
 use Rattle.format.specs.Outcomes.{formatted}
-use Rattle.atomicity.specs.Runs.{Run, started, ranOver}
-use Rattle.atomicity.specs.Transcripts.{Event, eventsOf}
+use Rattle.atomicity.specs.Runs.{Step, Run, started}
+use Rattle.atomicity.specs.Transcripts.{eventsOf}
 use Rattle.atomicity.proofs.TranscriptLaws.{transcripts-agree}
 use Rattle.replay.specs.declared.Ended.{Ended}
 use Rattle.replay.specs.declared.Replayed.{Replayed}
 use Rattle.replay.specs.Scripts.{steps}
 use Rattle.replay.specs.Transcripts.{transcript}
 use Rattle.replay.specs.Replays.{Left, noRoom, ran, replayAnswerOf, leftBy, hasRoom, runLeft, runFormatted, formattedAndRun, AllOrNoneFor, WhereRun}
-use Rattle.replay.proofs.TranscriptLaws.{front-is}
+use Rattle.replay.proofs.BackLaws.{events-back}
 
 -- What is claimed of what was left.
 abbrev pub Claimed : Table → (script : Bytes) → Left → Type 0
@@ -34,8 +34,8 @@ module _ (v : Volume) (T : ℕ) (l script out : Bytes) where
   unfolding runLeft
   ran-claim d =
       let r : Run = started (format v T l .volume) in
-      let es : List Event = eventsOf r (steps script) in
-      record { events = es; told = front-is out (transcript es); agrees = transcripts-agree v T l d (steps script) }
+      let xs : List Step = steps script in
+      rw (events-back r xs (drop (length (transcript (eventsOf r xs))) out) refl) (transcripts-agree v T l d xs)
 
   formatted-claim : (a : FormatAnswer) → format v T l .answer ≡ a
       → Claimed (tableFor (length v) T l) script (runFormatted a (format v T l .volume) script out)

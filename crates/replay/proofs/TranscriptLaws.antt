@@ -6,7 +6,7 @@ use Prim.Native.Nat.{ℕ, suc, _+_, _*_, _-_, _/_, _%_, _≤_, _<_}
 use native.Mathlib.Numerals.{add-one}
 use native.Mathlib.Omega.{arith}
 use lib.ListN.{length, take, drop, set, replicate, length-append, length-take, length-replicate}
-use lib.Seq.{sets, sets-eq, length-sets, take-at, getD-drop}
+use lib.Seq.{sets, sets-eq, length-sets, getD-drop}
 use Rattle.interface.specs.declared.Session.{Session}
 use Rattle.interface.specs.declared.Refusal.{Refusal}
 use Rattle.interface.specs.declared.Outcome.{Outcome}
@@ -82,10 +82,7 @@ sets-front out d h =
     let z : 0 + length d ≡ length d = omega arith in
     sets-eq d out 0 (omega arith) ∙ rw z
 
-pub front-is : (out d : Bytes) → take (length d) (atFront d out) ≡ d
-front-is out d = take-at d (drop (length d) out) (length d) refl
-
--- A sector needs no padding, and nothing is padded to zeros.
+-- A sector needs no padding.
 pub padded-page : (l : Bytes) → length l ≡ 256 → padded l ≡ l
 unfolding padded
 padded-page l h =

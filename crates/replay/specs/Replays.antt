@@ -1,10 +1,8 @@
 -- What a replay answers and leaves, and all or none as it is claimed of one.
-use mathlib.Core.Path.{_≡_}
 use mathlib.Core.Bool.{Bool}
-use mathlib.Core.List.{List}
 use Prim.Native.Nat.{ℕ}
 use lib.Dec.{leb}
-use lib.ListN.{length, take}
+use lib.ListN.{length}
 use Rattle.interface.specs.declared.Session.{Session}
 use Rattle.interface.specs.Answers.{newSession, refusalNumber, FormatAnswer, formatDone, formatRefused}
 use Rattle.sector.specs.Lists.{if_then_else_}
@@ -14,11 +12,11 @@ use Rattle.volume.specs.Format.{Formatted, format}
 use Rattle.listing.specs.Writes.{atFront}
 use Rattle.atomicity.specs.Model.{newModel}
 use Rattle.atomicity.specs.Runs.{Run, started, ranOver}
-use Rattle.atomicity.specs.Transcripts.{Event, eventsOf, SaidAgrees}
+use Rattle.atomicity.specs.Transcripts.{eventsOf, SaidAgrees}
 use Rattle.replay.specs.declared.Ended.{Ended}
 use Rattle.replay.specs.declared.Replayed.{Replayed}
 use Rattle.replay.specs.Scripts.{steps}
-use Rattle.replay.specs.Transcripts.{transcript, transcriptLength}
+use Rattle.replay.specs.Transcripts.{transcript, transcriptLength, eventsIn}
 
 -- What a replay answers: the transcript has no room; the array can't be formatted, with the refusal's number; or the script was
 -- run.
@@ -72,12 +70,10 @@ formattedAndRun v T l script out =
     else record { answer = noRoom; session = newSession; volume = v; out = out }
 
 -- ------------------------------------------------------------------ all or none
--- Demand 3 for a volume that was formatted and is v after the script, with the transcript at the front of `out`: what the
--- transcript says of the steps, and the decided content of v, agree with the model that is fed with it.
-pub record AllOrNoneFor (t : Table) (script : Bytes) (v : Volume) (out : Bytes) : Type 0 where
-  pub events : List Event
-  pub told : take (length (transcript events)) out ≡ transcript events
-  pub agrees : SaidAgrees t newModel newSession (steps script) events v
+-- Demand 3 for a volume that was formatted with this table and is v after the script, with the transcript at the front of `out`:
+-- what the transcript says of the steps, and the decided content of v, agree with the model that is fed with it.
+abbrev pub AllOrNoneFor : Table → (script : Bytes) → Volume → (out : Bytes) → Type 0
+AllOrNoneFor t script v out = SaidAgrees t newModel newSession (steps script) (eventsIn (steps script) out) v
 
 -- It is claimed where the script was run.
 abbrev pub WhereRun : ReplayAnswer → Type 0 → Type 0

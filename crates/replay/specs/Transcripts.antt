@@ -4,10 +4,13 @@
 -- handed back, zeros where it was refused.
 use mathlib.Core.List.{List, [], _∷_, _++_}
 use Prim.Native.Nat.{ℕ, _+_}
+use lib.Dec.{eqb}
+use lib.ListN.{take, drop}
 use Rattle.interface.specs.declared.Session.{Session}
-use Rattle.interface.specs.Answers.{sessionByte, done, crashed, refused, found, readRefused}
+use Rattle.interface.specs.Answers.{sessionOf, sessionByte, Answer, done, crashed, refused, ReadAnswer, found, readRefused}
+use Rattle.sector.specs.Lists.{if_then_else_}
 use Rattle.sector.specs.Contents.{Bytes}
-use Rattle.sector.specs.Sectors.{wordBytes, padded}
+use Rattle.sector.specs.Sectors.{byte, word, wordBytes, padded}
 use Rattle.atomicity.specs.Runs.{Step, calls, reads}
 use Rattle.atomicity.specs.Transcripts.{StepAnswer, ofCall, ofRead, Event}
 
@@ -46,3 +49,29 @@ entryLength (reads crash k f p) = 516
 abbrev pub transcriptLength : List Step → ℕ
 transcriptLength [] = 0
 transcriptLength (x ∷ xs) = entryLength x + transcriptLength xs
+
+-- ------------------------------------------------------------------ read back
+-- A call's answer, by its kind and number.
+abbrev pub answerIn : (kind : ℕ) → (number : ℕ) → Answer
+answerIn kind n = if eqb kind 0 then done n else if eqb kind 1 then crashed n else refused n
+
+-- A read's answer.
+abbrev pub readAnswerIn : (kind : ℕ) → (number : ℕ) → ReadAnswer
+readAnswerIn kind n = if eqb kind 3 then found n else readRefused n
+
+-- What a read showed: nothing where it was refused.
+abbrev pub shownIn : ReadAnswer → Bytes → Bytes
+shownIn (found n) d = d
+shownIn (readRefused n) d = []
+
+-- What the entry at the front says of its step.
+unfoldable pub eventIn : Step → Bytes → Event
+eventIn (calls crash c budget) l = record { answer = ofCall (answerIn (byte l 0) (word l 1)); session = sessionOf (byte l 3); bytes = []; part = [] }
+eventIn (reads crash k f p) l =
+    let x = readAnswerIn (byte l 0) (word l 1) in
+    record { answer = ofRead x; session = sessionOf (byte l 3); bytes = shownIn x (take 256 (drop 4 l)); part = shownIn x (take 256 (drop 260 l)) }
+
+-- What the transcript at the front says of these steps.
+abbrev pub eventsIn : List Step → Bytes → List Event
+eventsIn [] l = []
+eventsIn (x ∷ xs) l = eventIn x l ∷ eventsIn xs (drop (entryLength x) l)

@@ -1,0 +1,109 @@
+-- Scripts and transcripts of a few steps, byte by byte: what each step is, and what each entry says. The checker evaluates both
+-- sides.
+use mathlib.Core.Path.{_≡_, refl}
+use mathlib.Core.Bool.{true, false}
+use mathlib.Core.List.{List, [], _∷_, _++_}
+use Prim.Native.Nat.{ℕ}
+use lib.ListN.{replicate}
+use Rattle.interface.specs.declared.Session.{Session}
+use Rattle.interface.specs.Answers.{newSession, done, crashed, refused, found, readRefused}
+use Rattle.sector.specs.Contents.{Bytes}
+use Rattle.sector.specs.Sectors.{padded}
+use Rattle.rules.specs.Plans.{begin, openFile, write, commit, abort}
+use Rattle.atomicity.specs.Runs.{Step, calls, reads}
+use Rattle.atomicity.specs.Transcripts.{ofCall, ofRead, Event}
+use Rattle.commands.specs.Commands.{stepOf}
+use Rattle.replay.specs.Scripts.{commandIn, isWhole, stepIn, stepsFrom, steps}
+use Rattle.replay.specs.Transcripts.{headBytes, entryOf, transcript, transcriptLength, eventIn, eventsIn}
+use Rattle.replay.specs.Replays.{hasRoom}
+
+-- ------------------------------------------------------------------ scripts
+-- Begin 1 with a budget of 255; the supply fails, and client 2 opens file 3 with a budget of 4; a write of three bytes; commit,
+-- abort, a read; and a begin that isn't whole.
+abbrev script : Bytes
+script =
+    0 ∷ 0 ∷ 1 ∷ 0 ∷ 0 ∷ 255 ∷ 0 ∷ 0
+    ∷ 1 ∷ 1 ∷ 2 ∷ 3 ∷ 0 ∷ 4 ∷ 0 ∷ 0
+    ∷ 2 ∷ 0 ∷ 1 ∷ 2 ∷ 5 ∷ 6 ∷ 3 ∷ 0 ∷ 0xAA ∷ 0xBB ∷ 0xCC
+    ∷ 3 ∷ 0 ∷ 1 ∷ 0 ∷ 0 ∷ 7 ∷ 0 ∷ 0
+    ∷ 4 ∷ 0 ∷ 2 ∷ 0 ∷ 0 ∷ 8 ∷ 0 ∷ 0
+    ∷ 5 ∷ 1 ∷ 1 ∷ 2 ∷ 5 ∷ 0 ∷ 0 ∷ 0
+    ∷ 0 ∷ 0 ∷ 1 ∷ 0 ∷ 0 ∷ 255 ∷ 0
+    ∷ []
+
+abbrev itsSteps : List Step
+itsSteps =
+    calls false (begin 1) 255
+    ∷ calls true (openFile 2 3) 4
+    ∷ calls false (write 1 2 5 (0xAA ∷ 0xBB ∷ 0xCC ∷ [])) 6
+    ∷ calls false (commit 1) 7
+    ∷ calls false (abort 2) 8
+    ∷ reads true 1 2 5
+    ∷ []
+
+script-steps : steps script ≡ itsSteps
+unfolding stepsFrom stepIn commandIn stepOf isWhole
+script-steps = refl
+
+-- The length of the data, low byte first: a page is 256 bytes.
+page-step : steps (2 ∷ 0 ∷ 1 ∷ 1 ∷ 0 ∷ 255 ∷ 0 ∷ 1 ∷ replicate 256 0xA1) ≡ calls false (write 1 1 0 (replicate 256 0xA1)) 255 ∷ []
+unfolding stepsFrom stepIn commandIn stepOf isWhole
+page-step = refl
+
+-- Data that the script doesn't have: no step.
+cut-step : steps (2 ∷ 0 ∷ 1 ∷ 1 ∷ 0 ∷ 255 ∷ 3 ∷ 0 ∷ 0xAA ∷ 0xBB ∷ []) ≡ []
+unfolding stepsFrom stepIn commandIn stepOf isWhole
+cut-step = refl
+
+-- Four bytes for each of the five calls, 516 for the read: 536 are enough, 535 are not.
+enough-room : hasRoom script 536 ≡ true
+unfolding hasRoom stepsFrom stepIn commandIn stepOf isWhole
+enough-room = refl
+
+too-little-room : hasRoom script 535 ≡ false
+unfolding hasRoom stepsFrom stepIn commandIn stepOf isWhole
+too-little-room = refl
+
+-- ------------------------------------------------------------------ transcripts
+-- Clients 1 and 3 are active.
+abbrev active13 : Session
+active13 = record { active = true ∷ false ∷ true ∷ false ∷ [] }
+
+abbrev ofCalls : List Event
+ofCalls =
+    record { answer = ofCall (done 2); session = active13; bytes = []; part = [] }
+    ∷ record { answer = ofCall (crashed 1); session = newSession; bytes = []; part = [] }
+    ∷ record { answer = ofCall (refused 11); session = active13; bytes = []; part = [] }
+    ∷ []
+
+calls-told : transcript ofCalls ≡ 0 ∷ 2 ∷ 0 ∷ 5 ∷ 1 ∷ 1 ∷ 0 ∷ 0 ∷ 2 ∷ 11 ∷ 0 ∷ 5 ∷ []
+unfolding entryOf headBytes
+calls-told = refl
+
+-- A read of sector 300 that shows a page, and a refused one.
+abbrev page : Bytes
+page = replicate 256 0xA1
+
+abbrev ofReads : List Event
+ofReads =
+    record { answer = ofRead (found 300); session = active13; bytes = page; part = page }
+    ∷ record { answer = ofRead (readRefused 8); session = active13; bytes = []; part = [] }
+    ∷ []
+
+reads-told : transcript ofReads
+    ≡ 3 ∷ 44 ∷ 1 ∷ 5 ∷ (page ++ (page ++ (2 ∷ 8 ∷ 0 ∷ 5 ∷ replicate 512 0)))
+unfolding entryOf headBytes padded
+reads-told = refl
+
+-- What is read back, with other bytes behind it; the two pages of a read may differ there.
+abbrev five : List Step
+five = calls false (begin 1) 9 ∷ calls false (begin 1) 9 ∷ calls false (begin 1) 9 ∷ reads false 1 2 3 ∷ reads false 1 2 3 ∷ []
+
+told-back : eventsIn five (transcript ofCalls ++ (transcript ofReads ++ (1 ∷ 2 ∷ 3 ∷ []))) ≡ ofCalls ++ ofReads
+unfolding entryOf headBytes padded eventIn
+told-back = refl
+
+two-pages : eventsIn (reads false 1 2 3 ∷ []) (3 ∷ 6 ∷ 0 ∷ 0 ∷ (page ++ replicate 256 0xB2))
+    ≡ record { answer = ofRead (found 6); session = newSession; bytes = page; part = replicate 256 0xB2 } ∷ []
+unfolding eventIn
+two-pages = refl
