@@ -38,17 +38,16 @@ records-turn n k b lo hi w rest =
     rw m (puts-more (256 * k) (256 * (k + 1)) _ _ b _ w (omega (arith, idle-length)) (puts-store k _ b idle-length) rest)
 
 -- ------------------------------------------------------------------ the files
--- File i's header is put into sector h; its slots stay zeros.
-pub files-turn : (l : Bytes) (i h : ℕ) (b c : Bytes) → i < length l / 2 → every fileFits (drop i (filesOf l)) ≡ true
-    → Puts (256 * h) (encodeHeader (pairAt l i) (newHeader (pairAt l i))) b c
-    → (w : Bytes) → Puts (256 * (h + 1 + pairAt l i .slots)) (newFiles (drop (i + 1) (filesOf l))) c w
+-- File i's header is stored in sector h; its slots stay zeros.
+pub files-turn : (l : Bytes) (i h : ℕ) (b : Bytes) → i < length l / 2 → every fileFits (drop i (filesOf l)) ≡ true
+    → (w : Bytes) → Puts (256 * (h + 1 + pairAt l i .slots)) (newFiles (drop (i + 1) (filesOf l))) (storeAt b h (encodeHeader (pairAt l i) (newHeader (pairAt l i)))) w
     → Puts (256 * h) (newFiles (drop i (filesOf l))) b w
 unfolding newFiles
-files-turn l i h b c lt fits one w rest =
+files-turn l i h b lt fits w rest =
     let x : File = pairAt l i in
     let full = new-header-length x (first-fits l i lt fits) in
     let e : 256 * (h + 1 + x .slots) ≡ 256 * h + 256 + length (replicate {A = ℕ} (256 * x .slots) 0) = rw (length-replicate {A = ℕ} (256 * x .slots) 0) (omega arith) in
-    rw (files-from l i lt) (puts-more (256 * h) (256 * h + 256) _ _ b c w (omega (arith, full)) one
+    rw (files-from l i lt) (puts-more (256 * h) (256 * h + 256) _ _ b _ w (omega (arith, full)) (puts-store h _ b full)
     (puts-more (256 * h + 256) (256 * (h + 1 + x .slots)) (replicate (256 * x .slots) 0) _ _ _ w e (puts-zeros (256 * h + 256) (256 * x .slots) _) rest))
 
 -- There is room for its header, and it is in range.
@@ -64,21 +63,21 @@ file-pages l i lt fits =
     omega arith
 
 -- ------------------------------------------------------------------ all of it
-pub laid-out : (t : Table) (a b c e : Bytes) → a ≡ replicate (256 * t .sectors) 0
+pub laid-out : (t : Table) (a c e : Bytes) → a ≡ replicate (256 * t .sectors) 0
     → length (t .files) ≤ 62 → every fileFits (t .files) ≡ true → endSector t ≤ t .sectors
-    → Puts 0 (encodeTable t) a b → Puts 256 (repeated (t .clients) (encodeRecord idleRecord)) b c
+    → Puts 256 (repeated (t .clients) (encodeRecord idleRecord)) (storeAt a 0 (encodeTable t)) c
     → Puts (256 * (t .clients + 1)) (newFiles (t .files)) c e
     → e ≡ newVolume t
 unfolding newVolume Puts
-laid-out t a b c e zeros few fits ends one records files =
+laid-out t a c e zeros few fits ends records files =
     let d : Bytes = encodeTable t in
     let r : Bytes = repeated (t .clients) (encodeRecord idleRecord) in
     let f : Bytes = newFiles (t .files) in
     let n : ℕ = 256 * (t .sectors - endSector t) in
     let full : length d ≡ 256 = table-length t few in
     let rl : length r ≡ 256 * t .clients = repeated-length (t .clients) (encodeRecord idleRecord) idle-length in
-    let behind : Puts 256 (r ++ f) b e = puts-more 256 (256 * (t .clients + 1)) r f b c e (omega arith) records files in
-    let whole : Puts 0 (d ++ (r ++ f)) a e = puts-more 0 256 d (r ++ f) a b e (omega arith) one behind in
+    let behind : Puts 256 (r ++ f) (storeAt a 0 d) e = puts-more 256 (256 * (t .clients + 1)) r f _ c e (omega arith) records files in
+    let whole : Puts 0 (d ++ (r ++ f)) a e = puts-more 0 256 d (r ++ f) a _ e (omega arith) (puts-store 0 d a full) behind in
     let size : length (d ++ (r ++ f)) + n ≡ 256 * t .sectors =
     omega (arith, length-append d (r ++ f), length-append r f, new-files-length (t .files) (t .clients + 1) fits) in
     whole [] n refl (zeros ∙ rw size) ∙ rw (append-assoc d (r ++ f) (replicate n 0), append-assoc r f (replicate n 0))

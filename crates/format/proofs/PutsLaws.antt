@@ -1,13 +1,13 @@
--- Bytes put where there were zeros: one byte, a sector, stored or lent, zeros (nothing has to be done), and bytes behind others.
+-- Bytes put where there were zeros: one byte, a sector that is stored, zeros (nothing has to be done), and bytes behind others.
 -- Each by splitting the zeros into those that are replaced and those that are left.
 use mathlib.Core.Path.{_≡_, sym, _∙_}
 use mathlib.Core.List.{[], _∷_, _++_, append-assoc}
 use Prim.Native.Nat.{ℕ, suc, _+_, _*_}
 use native.Mathlib.Omega.{arith}
-use lib.ListN.{length, take, drop, set, replicate, length-append, length-replicate, replicate-append-replicate}
+use lib.ListN.{length, drop, set, replicate, length-append, length-replicate, replicate-append-replicate}
 use lib.Seq.{set-at, take-at, drop-at, drop-append-add}
 use Rattle.sector.specs.Contents.{Bytes}
-use Rattle.sector.specs.Sectors.{sector, storeAt, zeroSector}
+use Rattle.sector.specs.Sectors.{storeAt}
 use Rattle.format.specs.Puts.{Puts}
 
 pub puts-zeros : (at m : ℕ) (b : Bytes) → Puts at (replicate m 0) b b
@@ -38,13 +38,3 @@ puts-store s d b full p n l q =
     let left : drop (256 * s + 256) (p ++ z) ≡ replicate n 0 =
     rw (← l, split) (drop-append-add p _ 256 ∙ drop-at (replicate 256 0) (replicate n 0) 256 (length-replicate {A = ℕ} 256 0)) in
     rw (q, full, take-at p z (256 * s) l, left)
-
--- Sector s was lent, and came back as e: this is d, if the sector was zeros.
-pub puts-part : (s : ℕ) (d b e : Bytes) → length d ≡ 256 → (sector b s ≡ zeroSector → e ≡ d) → Puts (256 * s) d b (storeAt b s e)
-unfolding Puts sector zeroSector
-puts-part s d b e full x p n l q =
-    let r : Bytes = replicate (256 + n) 0 in
-    let split : r ≡ replicate 256 0 ++ replicate n 0 = sym (replicate-append-replicate 256 n 0) in
-    let z : take 256 (drop (256 * s) b) ≡ replicate 256 0 =
-    rw (q, full, drop-at p r (256 * s) l, split) (take-at (replicate 256 0) (replicate n 0) 256 (length-replicate {A = ℕ} 256 0)) in
-    rw (x z) (puts-store s d b full p n l q)

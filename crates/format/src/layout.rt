@@ -1,5 +1,5 @@
-// The array of a new volume: zeros, into which the control sectors are put rising by sector. Format is not made of stores: the
-// table and the headers are written in place, which spares the time of a copy that waits for the bytes just written.
+// The array of a new volume: zeros, into which the control sectors are stored rising by sector, each built in the working
+// sector.
 use crate::build::new_header;
 use crate::build::new_table;
 use sector::Sector;
@@ -32,15 +32,14 @@ fn clear(v: &mut [u8])
     }
 }
 
-// The table is put into sector 0.
+// The table is stored in sector 0.
 fn put_table(v: &mut [u8], clients: u8, shape: &[u8])
     requires { ⌜ (256 ≤ length (now v)) × (length (now v) ≤ 262144) × (length (now shape) ≤ 32) ⌝ }
-    ensures { λ _. ⌜ Puts 0 (encodeTable (tableFor (length (now (v .entry))) clients (now (shape .entry)))) (now (v .entry)) (now (v .exit)) ⌝ }
-    ensures { λ _. ⌜ length (now (v .exit)) ≡ length (now (v .entry)) ⌝ }
+    ensures { λ _. ⌜ now (v .exit) ≡ storeAt (now (v .entry)) 0 (encodeTable (tableFor (length (now (v .entry))) clients (now (shape .entry)))) ⌝ }
 {
-    let sectors = v.len() / Sector::SIZE;
-    let e = Sector::SIZE;
-    new_table(&mut v[0..e], sectors, clients, shape);
+    let mut buf = zeros();
+    new_table(&mut buf, v.len() / Sector::SIZE, clients, shape);
+    store(v, 0, &buf);
 }
 
 // The idle record of client k is stored.
@@ -66,15 +65,14 @@ fn put_records(v: &mut [u8], clients: usize)
     }
 }
 
-// The header of a new file is put into sector h.
+// The header of a new file is stored in sector h.
 fn put_header(v: &mut [u8], h: usize, pages: u8)
     requires { ⌜ (256 * h + 256 ≤ length (now v)) × (h ≤ 65536) × (pages ≤ 248) ⌝ }
-    ensures { λ _. ⌜ ((x : File) → Puts (256 * h) (encodeHeader x (record { holder = 0; map = from 0 pages })) (now (v .entry)) (now (v .exit))) ⌝ }
-    ensures { λ _. ⌜ length (now (v .exit)) ≡ length (now (v .entry)) ⌝ }
+    ensures { λ _. ⌜ ((x : File) → now (v .exit) ≡ storeAt (now (v .entry)) h (encodeHeader x (record { holder = 0; map = from 0 pages }))) ⌝ }
 {
-    let at = Sector::SIZE * h;
-    let e = at + Sector::SIZE;
-    new_header(&mut v[at..e], pages);
+    let mut buf = zeros();
+    new_header(&mut buf, pages);
+    store(v, h, &buf);
 }
 
 // The headers of all files, the first one's in sector `first`. Their slots are zeros already.

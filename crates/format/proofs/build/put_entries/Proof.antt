@@ -16,15 +16,15 @@ use Rattle.format.proofs.build.put_entries.Statement.{statement}
 use Rattle.format.proofs.build.put_entries.Tie as tie
 
 abbrev Inv-loop : tie.InvT-loop
-Inv-loop part₀ first shape n h₀ i₀ part h i =
-    (i ≤ n) × (n ≡ length shape / 2) × (h ≤ 256 + 256 * i) × (length part ≡ 256)
-    × ((w : List ℕ) → Puts (8 + 4 * i) (fileBytes h (drop i (filesOf shape))) part w → Puts 8 (fileBytes first (filesOf shape)) part₀ w)
+Inv-loop buf₀ first shape n h₀ i₀ buf h i =
+    (i ≤ n) × (n ≡ length shape / 2) × (h ≤ 256 + 256 * i) × (length buf ≡ 256)
+    × ((w : List ℕ) → Puts (8 + 4 * i) (fileBytes h (drop i (filesOf shape))) buf w → Puts 8 (fileBytes first (filesOf shape)) buf₀ w)
 
 abbrev μ-loop : tie.MeasureT-loop
-μ-loop part₀ first shape n h₀ i₀ part h i = n - i
+μ-loop buf₀ first shape n h₀ i₀ buf h i = n - i
 
 loop-holds : tie.Need-loop-holds Inv-loop μ-loop
-loop-holds c = let s = c .before .before in (omega arith, refl, s .pre .1, s .pre .0, λ w x. x)
+loop-holds c = let s = c .before in (omega arith, refl, s .pre .1, s .pre .0, λ w x. x)
 
 mul-slots : tie.Need-mul-slots Inv-loop μ-loop
 mul-slots c = search needs
@@ -67,22 +67,19 @@ loop-less c = search needs
 
 loop-again : tie.Need-loop-again Inv-loop μ-loop
 loop-again c =
-    let p = c .before .before .before in
+    let p = c .before in
     let at = p .before .before .before .before .before in
-    let l = at .before .before .before .args .shape .now in
-    let turn = entries-turn l (at .loop .i) (at .loop .h) (at .loop .part) _ (omega arith) (p .put-entry .ensures .0) in
+    let l = at .before .before .args .shape .now in
+    let turn = entries-turn l (at .loop .i) (at .loop .h) (at .loop .buf) _ (omega arith) (p .put-entry .ensures .0) in
     (omega arith, refl, omega arith, p .put-entry .ensures .1, rw (c .size .ensures .0) (λ w x. at .loop .inv .4 w (turn w x)))
-
-same-length : tie.Need-same-length Inv-loop μ-loop
-same-length c = search needs
 
 returns : tie.Need-returns Inv-loop μ-loop
 unfolding fileBytes
 returns c =
     let at = c .before in
-    let l = at .before .before .before .args .shape .now in
+    let l = at .before .before .args .shape .now in
     let z : drop (at .loop .i) (filesOf l) ≡ [] = files-end l (at .loop .i) (omega arith) in
-    (at .loop .inv .4 _ (rw z (puts-zeros (8 + 4 * at .loop .i) 0 (at .loop .part))), at .loop .inv .3)
+    (at .loop .inv .4 _ (rw z (puts-zeros (8 + 4 * at .loop .i) 0 (at .loop .buf))), at .loop .inv .3)
 
 pub put-entries-spec : {M : Type 1} → statement M
 put-entries-spec =
@@ -105,5 +102,4 @@ put-entries-spec =
     add-i
     loop-less
     loop-again
-    same-length
     returns)

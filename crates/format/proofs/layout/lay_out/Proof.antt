@@ -55,9 +55,9 @@ returns c =
     let zeros = k .clear .ensures ∙ ap (λ (m : ℕ). replicate {A = ℕ} m 0) (s .pre .size) in
     let kept : length (k .clear .last .0) ≡ n = omega arith in
     let few : length (filesOf l) ≤ 62 = omega (arith, files-count l) in
-    laid-out (tableFor n (s .args .clients) l) (k .clear .last .0) (t .put-table .last .0) (r .put-records .last .0) (f .put-files .last .0)
-    zeros few (s .pre .files) (s .pre .ends) (rw kept at (t .put-table .ensures .0))
-    (rw (r .before .size .ensures .0) at (r .put-records .ensures .0)) (rw (f .before .size2 .ensures .0) at (f .put-files .ensures))
+    laid-out (tableFor n (s .args .clients) l) (k .clear .last .0) (r .put-records .last .0) (f .put-files .last .0)
+    zeros few (s .pre .files) (s .pre .ends)
+    (rw (r .before .size .ensures .0, t .put-table .ensures, kept) at (r .put-records .ensures .0)) (rw (f .before .size2 .ensures .0) at (f .put-files .ensures))
 
 pub lay-out-spec : {M : Type 1} → statement M
 lay-out-spec =

@@ -86,13 +86,13 @@ loop-again c =
     let at = p .before .before .before .before in
     let l = at .before .before .before .args .shape .now in
     let lt : at .loop .i < length l / 2 = omega arith in
-    let turn = files-turn l (at .loop .i) (at .loop .h) (at .loop .v) (p .put-header .last .0) lt (at .loop .inv .4) (p .put-header .ensures .0 (pairAt l (at .loop .i))) in (
+    let turn = files-turn l (at .loop .i) (at .loop .h) (at .loop .v) lt (at .loop .inv .4) in (
       omega arith,
       refl,
       omega arith,
       rw (c .size .ensures .0, after-turn l (at .loop .i) (at .loop .h) lt) (at .loop .inv .3),
       rest-fits l (at .loop .i) lt (at .loop .inv .4),
-      rw (c .size .ensures .0) (λ w x. at .loop .inv .5 w (turn w x)),
+      rw (c .size .ensures .0, p .put-header .ensures (pairAt l (at .loop .i))) (λ w x. at .loop .inv .5 w (turn w x)),
     )
 
 same-length : tie.Need-same-length Inv-loop μ-loop
