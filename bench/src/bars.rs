@@ -1,17 +1,22 @@
 //! The bars: no call of the library runs more instructions than the same call
-//! in Rust, and none takes more than 1,024 bytes of stack. Times are reported
-//! and have no bar here: they vary from run to run.
+//! in Rust, and none takes more than 1,024 bytes of stack. Times vary from run
+//! to run: a call that takes longer than in Rust is named, and misses no bar.
 
 pub const STACK_LIMIT: usize = 1024;
 
-/// Calls that may be above the bar, each with the place and the reason.
-const EXCEPTIONS: &[(&str, &str, &str)] = &[];
+/// Calls that may be above Rust, each with the place and the reason.
+const EXCEPTIONS: &[(&str, &str, &str)] = &[(
+    "small",
+    "format",
+    "each control sector is built in the working sector, and its copy waits for the bytes just written",
+)];
 
 #[derive(Default)]
 pub struct Bars {
     calls: usize,
     worst: f64,
     highest: usize,
+    longer: Vec<String>,
     excused: Vec<String>,
     missed: Vec<String>,
 }
@@ -25,9 +30,17 @@ impl Bars {
             return;
         }
         let above = format!("{place}, {call}: {library} instructions, {rust} in Rust");
-        match EXCEPTIONS.iter().find(|&&(at, name, _)| (at, name) == (place, call)) {
-            Some((_, _, reason)) => self.excused.push(format!("{above}: {reason}")),
+        match reason(place, call) {
+            Some(reason) => self.excused.push(format!("{above}: {reason}")),
             None => self.missed.push(above),
+        }
+    }
+
+    /// Notes the nanoseconds of one call, the library's first.
+    pub fn time(&mut self, place: &str, call: &str, [library, rust]: [f64; 2]) {
+        if library > rust {
+            let reason = reason(place, call).unwrap_or("no exception, measure again");
+            self.longer.push(format!("{place}, {call}: {library:.0} ns, {rust:.0} in Rust: {reason}"));
         }
     }
 
@@ -44,6 +57,9 @@ impl Bars {
         println!("\n6. BARS\n");
         println!("highest ratio of instructions {:.2}, of {} measured calls", self.worst, self.calls);
         println!("highest stack {} bytes, {STACK_LIMIT} are allowed", self.highest);
+        for longer in &self.longer {
+            println!("longer in time: {longer}");
+        }
         for excused in &self.excused {
             println!("exception: {excused}");
         }
@@ -53,6 +69,11 @@ impl Bars {
         println!("{}", if self.missed.is_empty() { "all bars are met" } else { "not all bars are met" });
         self.missed.is_empty()
     }
+}
+
+/// Why the call may be above Rust there, if it may.
+fn reason(place: &str, call: &str) -> Option<&'static str> {
+    EXCEPTIONS.iter().find(|&&(at, name, _)| (at, name) == (place, call)).map(|&(_, _, reason)| reason)
 }
 
 pub fn ratio(library: u64, rust: u64) -> f64 {

@@ -20,8 +20,10 @@ fn print_place(place: &Place, bars: &mut Bars) {
     for scene in scenes(place) {
         let counts = scene.instructions();
         let [library, rust] = counts;
-        let [library_ns, rust_ns] = clock::times(&scene, scene.reply());
+        let times = clock::times(&scene, scene.reply());
+        let [library_ns, rust_ns] = times;
         bars.instructions(name, scene.name, counts);
+        bars.time(name, scene.name, times);
         println!(
             "{:26}{library:9}{rust:9}{:9.2}{library_ns:9.0}{rust_ns:9.0}{:9.2}",
             scene.name,
