@@ -7,23 +7,24 @@ use mathlib.Core.List.{List, [], _∷_, _++_, append-assoc}
 use mathlib.Core.Logic.{_≢_}
 use Prim.Native.Nat.{ℕ, _≤_}
 use native.Mathlib.Omega.{arith}
-use borrow.Author.Tests.{eqb-true, ne-eqb, not-false}
+use borrow.Author.Tests.{eqb-true, eq-eqb, ne-eqb, not-false}
 use lib.Dec.{eqb}
 use Rattle.interface.specs.declared.Session.{Session}
 use Rattle.sector.specs.Lists.{if_then_else_, every, member}
 use Rattle.sector.specs.Contents.{Table, Header, idleRecord, openRecord}
 use Rattle.sector.proofs.ListLaws.{and-left, and-right, or-right, no-both}
-use Rattle.sector.proofs.CaseLaws.{if-test, if-equal}
+use Rattle.sector.proofs.CaseLaws.{by-equal, if-test, if-equal}
 use Rattle.volume.specs.Places.{isFile}
 use Rattle.volume.specs.Views.{View, Update, setRecord, setHeader, changed, changedBy}
+use Rattle.volume.specs.Lawful.{HeaderFacts}
 use Rattle.volume.proofs.PlaceLaws.{IsFile, file-of}
-use Rattle.volume.proofs.LawfulLaws.{HeaderFacts, Lawful, idle-facts, open-facts, placed-record, placed-header}
+use Rattle.volume.proofs.LawfulLaws.{Lawful, idle-facts, open-facts, placed-record, placed-header}
 use Rattle.volume.proofs.AlongLaws.{Along, last, step, last-record}
 use Rattle.rules.specs.Sessions.{isActive, isOrphaned}
 use Rattle.rules.specs.Recovery.{isDecided, mapAfter, heldFiles, recovery}
 use Rattle.rules.specs.Plans.{beginPlan, openPlan}
 use Rattle.rules.specs.Content.{decidedMap}
-use Rattle.rules.proofs.AllowedLaws.{Others, Running, MayBegin, MayAct, MayOpen, running-undecided, running-foreign}
+use Rattle.rules.proofs.AllowedLaws.{Others, Running, MayBegin, MayAct, MayOpen, holder-orphaned, running-undecided, running-foreign}
 use Rattle.rules.proofs.ContentLaws.{decidedHeader, unheld-map, decided-fits}
 use Rattle.rules.proofs.RecoveryLaws.{held-files, held-member, freeing, map-after, recovery-is}
 use Rattle.atomicity.proofs.KeepLaws.{Keeps, keeps-self, keep-header, keep-record}
@@ -150,12 +151,13 @@ module _ {a : View} {s : Session} {k : ℕ} where
           };
         }
 
-  pub open-along : {f : ℕ} → MayOpen a s k f → KeptAlong a s 0 a (openPlan a k f)
+  pub open-along : {f : ℕ} → MayOpen a s k f → KeptAlong a s 0 a (openPlan a s k f)
   unfolding openPlan
   open-along {f} w =
       if-equal (KeptAlong a s 0 a) (a .headers f .holder) k [] _ (λ e. last self)
-      (λ n. if-equal (KeptAlong a s 0 a) (a .headers f .holder) 0 _ _
-      (λ e. rw (sym (unheld-map a f e)) (takes w n a self)) (λ z. orphaned (a .headers f .holder) refl n (omega arith)))
+      (λ n. rw (holder-orphaned a s k f (laws .headers f (w .file)) (w .free) n) (by-equal (a .headers f .holder) 0
+      (λ e. rw (eq-eqb _ 0 e, sym (unheld-map a f e)) (takes w n a self))
+      (λ z. rw (ne-eqb _ 0 z) (orphaned (a .headers f .holder) refl n (omega arith)))))
     where
       laws : Lawful (a .table) a
       laws = w .act .ready .laws

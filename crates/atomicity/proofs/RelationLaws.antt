@@ -151,10 +151,10 @@ module _ (a : View) (s : Session) (m : Model) (h : Faithful a s m) where
     ends = λ n. own-matches h only (end-pages m (h .pages) along) (h .marks);
   }
     where
-      along : KeptAlong a s 0 a (openPlan a k f)
+      along : KeptAlong a s 0 a (openPlan a s k f)
       along = open-along w
 
-      only : OnlyOwn 0 a (changedBy a (openPlan a k f)) s s m m
+      only : OnlyOwn 0 a (changedBy a (openPlan a s k f)) s s m m
       only = record {
         others = λ j o. along-end along .others j o .pending;
         marks = λ j lo n. refl;

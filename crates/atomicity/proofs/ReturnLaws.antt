@@ -73,7 +73,7 @@ module _ (a : View) (s : Session) (marks : length (s .active) ≡ 4) where
         mine = ap (λ (r : Record). every (λ e. eqb (end .headers (e .file) .holder) k) (r .entries)) (begin-opens a s k);
       }
 
-  open-runs : (k f : ℕ) → MayOpen a s k f → (j : ℕ) → Active s j → Running (changedBy a (openPlan a k f)) j
+  open-runs : (k f : ℕ) → MayOpen a s k f → (j : ℕ) → Active s j → Running (changedBy a (openPlan a s k f)) j
   open-runs k f w j x =
       along-running (open-along w) j (record { active = x; other = omega (arith, x .low) }) (w .act .ready .runs j x)
 

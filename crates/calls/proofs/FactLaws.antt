@@ -7,15 +7,15 @@ use Rattle.interface.specs.declared.Session.{Session}
 use Rattle.sector.specs.Lists.{first}
 use Rattle.sector.specs.Sectors.{Volume}
 use Rattle.volume.specs.Places.{IsClient, IsFile}
+use Rattle.volume.specs.Lawful.{HeaderFacts}
 use Rattle.volume.specs.Volumes.{view}
 use Rattle.volume.specs.Sound.{sound}
 use Rattle.volume.specs.Known.{Known}
-use Rattle.volume.proofs.LawfulLaws.{HeaderFacts}
 use Rattle.volume.proofs.KnownLaws.{sound-known}
 use Rattle.volume.proofs.ReadLaws.{few-clients}
 use Rattle.rules.specs.Sessions.{isActive}
 use Rattle.rules.specs.Plans.{Call, begin, openFile, commit, abort}
-use Rattle.rules.specs.Refusals.{tests}
+use Rattle.rules.specs.Refusals.{heldByOther, tests}
 use Rattle.rules.proofs.AllowedLaws.{allowed, allowed-sound}
 use Rattle.transaction.proofs.TestedLaws.{begin-client, act-client, open-header}
 
@@ -61,6 +61,7 @@ acts v s k e =
 -- A file that may be opened.
 pub opens : (v : Volume) (s : Session) (k f : ℕ) → 0 ≡ first (tests (sound v) (view v) s (openFile k f))
     → IsFile (view v .table) f × HeaderFacts (view v .table) (view v .records) f (view v .headers f)
+    × (heldByOther (view v) s k f ≡ false)
 opens v s k f e =
     let w = allowed v s (openFile k f) (sym e) in
-    (w .file, open-header w)
+    (w .file, open-header w, w .free)

@@ -18,14 +18,14 @@ use Rattle.sector.proofs.CaseLaws.{by-test, by-equal}
 use Rattle.sector.proofs.SearchLaws.{or-true, every-implies, first-none}
 use Rattle.volume.specs.Places.{isClient, isFile, fileAt}
 use Rattle.volume.specs.Views.{View}
-use Rattle.volume.specs.Lawful.{lawful}
+use Rattle.volume.specs.Lawful.{lawful, HeaderFacts}
 use Rattle.volume.specs.Volumes.{view}
 use Rattle.volume.specs.Sound.{sound}
 use Rattle.volume.proofs.PlaceLaws.{IsFile, client-of, file-of}
 use Rattle.volume.proofs.LawfulLaws.{Lawful, lawful-facts}
 use Rattle.rules.specs.Sessions.{holds, isActive, markFits, sessionFits}
 use Rattle.rules.specs.Recovery.{isDecided}
-use Rattle.rules.specs.Plans.{Call, begin, openFile, write, commit, abort, freeSlots}
+use Rattle.rules.specs.Plans.{Call, begin, openFile, write, commit, abort, freeSlots, heldByOrphan}
 use Rattle.rules.specs.Refusals.{heldByOther, noPage, noEntry, tests, readTests}
 
 -- ------------------------------------------------------------------ sessions
@@ -124,6 +124,16 @@ Allowed a s (openFile k f) = MayOpen a s k f
 Allowed a s (write k f p d) = MayWrite a s k f p d
 Allowed a s (commit k) = MayAct a s k
 Allowed a s (abort k) = MayAct a s k
+
+-- Where open isn't refused, a holder other than k is orphaned, unless there is none: one that is active is refused by 7, one
+-- whose record is idle by 1.
+pub holder-orphaned : (a : View) (s : Session) (k f : ℕ) → HeaderFacts (a .table) (a .records) f (a .headers f)
+    → heldByOther a s k f ≡ false → a .headers f .holder ≢ k → heldByOrphan a s f ≡ not (eqb (a .headers f .holder) 0)
+holder-orphaned a s k f facts free n = by-equal (a .headers f .holder) 0
+    (λ e. rw (eq-eqb _ 0 e))
+    (λ z.
+    let off : isActive s (a .headers f .holder) ≡ false = rw (ne-eqb _ 0 z, ne-eqb _ k n) at free in
+    rw (ne-eqb _ 0 z, off, facts .holder z .live))
 
 -- ------------------------------------------------------------------ from the tests
 module _ (v : Volume) (s : Session) where

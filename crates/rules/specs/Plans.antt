@@ -11,7 +11,7 @@ use Rattle.sector.specs.Contents.{Bytes, File, Entry, Record, Header, openRecor
 use Rattle.sector.specs.Entries.{forPage, givesSlot}
 use Rattle.volume.specs.Places.{fileAt}
 use Rattle.volume.specs.Views.{View, Update, setRecord, setHeader, setSlot}
-use Rattle.rules.specs.Sessions.{setActive, isOrphaned}
+use Rattle.rules.specs.Sessions.{setActive, isOrphaned, holds}
 use Rattle.rules.specs.Recovery.{isDecided, mapAfter, recovery}
 
 -- The calls that store, with their arguments.
@@ -47,16 +47,22 @@ slotFor a f p none = getD (a .headers f .map) p 0
 unfoldable pub beginPlan : View → Session → ℕ → List Update
 beginPlan a s k = (if isOrphaned a s k then recovery (isDecided a k) a k else []) ++ (setRecord k openRecord ∷ [])
 
+-- "an interrupted kiln holds f". Holder 0 is nobody.
+abbrev pub heldByOrphan : View → Session → ℕ → Bool
+heldByOrphan a s f =
+    let holder = a .headers f .holder in
+    not (eqb holder 0) && isOrphaned a s holder
+
 -- "if k holds f, nothing. Else if an interrupted kiln holds f, recover that kiln; then store f's header with holder k." The
--- map stored is the one after that recovery. Another holder is interrupted: one that is marked is refused by 7, and one
--- whose record is idle by 1.
-unfoldable pub openPlan : View → ℕ → ℕ → List Update
-openPlan a k f =
+-- map stored is the one after that recovery.
+unfoldable pub openPlan : View → Session → ℕ → ℕ → List Update
+openPlan a s k f =
     let holder = a .headers f .holder in
     let redo = isDecided a holder in
-    if eqb holder k then []
-    else if eqb holder 0 then setHeader f (record { holder = k; map = a .headers f .map }) ∷ []
-    else recovery redo a holder ++ (setHeader f (record { holder = k; map = mapAfter redo a holder f }) ∷ [])
+    if holds a k f then []
+    else if heldByOrphan a s f
+    then recovery redo a holder ++ (setHeader f (record { holder = k; map = mapAfter redo a holder f }) ∷ [])
+    else setHeader f (record { holder = k; map = a .headers f .map }) ∷ []
 
 -- "if record k has (f, p), store the page in that real sector. Else take the lowest real ..; store the page there; store
 -- record k with the entry appended."
@@ -69,7 +75,7 @@ writePlan a k f p d none =
 -- Commit: "store record k decided; then the stores of recover k". Abort: "the stores of recover k while open".
 unfoldable pub plan : View → Session → Call → List Update
 plan a s (begin k) = beginPlan a s k
-plan a s (openFile k f) = openPlan a k f
+plan a s (openFile k f) = openPlan a s k f
 plan a s (write k f p d) = writePlan a k f p d (entryFor a k f p)
 plan a s (commit k) = setRecord k (decidedRecord (a .records k)) ∷ recovery true a k
 plan a s (abort k) = recovery false a k

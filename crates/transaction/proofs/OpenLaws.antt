@@ -11,11 +11,13 @@ use Rattle.sector.specs.Contents.{Header}
 use Rattle.sector.specs.Sectors.{Volume}
 use Rattle.volume.specs.Places.{IsClient, IsFile}
 use Rattle.volume.specs.Views.{View, setHeader}
+use Rattle.volume.specs.Lawful.{HeaderFacts}
 use Rattle.volume.specs.Volumes.{view}
 use Rattle.volume.specs.Known.{Known}
-use Rattle.volume.proofs.LawfulLaws.{HeaderFacts}
 use Rattle.rules.specs.Recovery.{isDecided, mapAfter, recovery}
 use Rattle.rules.specs.Plans.{openFile, openPlan, plan}
+use Rattle.rules.specs.Refusals.{heldByOther}
+use Rattle.rules.proofs.AllowedLaws.{holder-orphaned}
 use Rattle.recovery.specs.Budget.{Made}
 use Rattle.recovery.specs.Work.{recoveryNow}
 use Rattle.recovery.proofs.MadeLaws.{Suits, made-cut, made-known, made-view, made-table, made-more}
@@ -32,11 +34,12 @@ module _ (a : View) (s : Session) (k f : ℕ) where
   unfolding plan openPlan
   free-plan n e = rw (ne-eqb _ k n, eq-eqb _ 0 e)
 
-  held-plan : a .headers f .holder ≢ k → a .headers f .holder ≢ 0
+  held-plan : HeaderFacts (a .table) (a .records) f (a .headers f) → heldByOther a s k f ≡ false
+      → a .headers f .holder ≢ k → a .headers f .holder ≢ 0
       → plan a s (openFile k f) ≡ recovery (isDecided a (a .headers f .holder)) a (a .headers f .holder)
       ++ (setHeader f (record { holder = k; map = mapAfter (isDecided a (a .headers f .holder)) a (a .headers f .holder) f }) ∷ [])
   unfolding plan openPlan
-  held-plan n z = rw (ne-eqb _ k n, ne-eqb _ 0 z)
+  held-plan facts free n z = rw (ne-eqb _ k n, holder-orphaned a s k f facts free n, ne-eqb _ 0 z)
 
 -- Another client, h, holds the file.
 module _ {v : Volume} (known : Known v) {k f h : ℕ} (file : IsFile (view v .table) f)
@@ -54,16 +57,17 @@ module _ {v : Volume} (known : Known v) {k f h : ℕ} (file : IsFile (view v .ta
   now : recoveryNow (view v) h ≡ recovery redo (view v) h
   now = now-live (view v) h (rw e at (facts .holder some .live))
 
-  whole : (s : Session) → plan (view v) s (openFile k f)
+  whole : (s : Session) → heldByOther (view v) s k f ≡ false → plan (view v) s (openFile k f)
       ≡ recovery redo (view v) h ++ (setHeader f (record { holder = k; map = mapAfter redo (view v) h f }) ∷ [])
-  whole s = rw e at (held-plan (view v) s k f (rw e n) some)
+  whole s free = rw e at (held-plan (view v) s k f facts free (rw e n) some)
 
   suits : Suits (view v .table) (recovery redo (view v) h)
   suits = recovery-suits v known h holder-client redo
 
   module _ {budget : ℕ} {w : Volume} {m : ℕ} where
-    pub open-cut : Made budget v (recoveryNow (view v) h) w m true → (s : Session) → Made budget v (plan (view v) s (openFile k f)) w m true
-    open-cut r s = rw (whole s) (made-cut _ _ (rw now at r))
+    pub open-cut : Made budget v (recoveryNow (view v) h) w m true → (s : Session) → heldByOther (view v) s k f ≡ false
+        → Made budget v (plan (view v) s (openFile k f)) w m true
+    open-cut r s free = rw (whole s free) (made-cut _ _ (rw now at r))
 
     module _ (r : Made budget v (recoveryNow (view v) h) w m false) where
       first : Made budget v (recovery redo (view v) h) w m false
@@ -81,5 +85,5 @@ module _ {v : Volume} (known : Known v) {k f h : ℕ} (file : IsFile (view v .ta
 
       pub open-more : {u : Volume} {l : ℕ} {crashed : Bool}
           → Made (budget - m) w (setHeader f (record { holder = k; map = view w .headers f .map }) ∷ []) u l crashed
-          → (s : Session) → Made budget v (plan (view v) s (openFile k f)) u (m + l) crashed
-      open-more q s = rw (whole s) (made-more _ known suits first _ (rw map-now at q))
+          → (s : Session) → heldByOther (view v) s k f ≡ false → Made budget v (plan (view v) s (openFile k f)) u (m + l) crashed
+      open-more q s free = rw (whole s free) (made-more _ known suits first _ (rw map-now at q))

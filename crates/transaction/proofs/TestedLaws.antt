@@ -10,7 +10,8 @@ use Rattle.interface.specs.declared.Session.{Session}
 use Rattle.sector.specs.Contents.{Bytes, Entry}
 use Rattle.volume.specs.Places.{IsClient, fileAt}
 use Rattle.volume.specs.Views.{View}
-use Rattle.volume.proofs.LawfulLaws.{HeaderFacts, RecordFacts, entry-facts}
+use Rattle.volume.specs.Lawful.{HeaderFacts}
+use Rattle.volume.proofs.LawfulLaws.{RecordFacts, entry-facts}
 use Rattle.rules.specs.Plans.{entryFor, chosen}
 use Rattle.rules.proofs.AllowedLaws.{MayBegin, MayAct, MayOpen, MayWrite}
 use Rattle.rules.proofs.ChoiceLaws.{chosen-free}

@@ -1,12 +1,15 @@
 // The stores of open.
+ghost use mathlib.Core.Path.{_≡_};
+ghost use mathlib.Core.Bool.{false};
 ghost use mathlib.Core.List.{[], _∷_};
 ghost use Rattle.interface.specs.declared.Session.{Session};
 ghost use Rattle.volume.specs.Places.{IsFile};
 ghost use Rattle.volume.specs.Views.{setHeader};
+ghost use Rattle.volume.specs.Lawful.{HeaderFacts};
 ghost use Rattle.volume.specs.Volumes.{view};
 ghost use Rattle.volume.specs.Known.{Known};
-ghost use Rattle.volume.proofs.LawfulLaws.{HeaderFacts};
 ghost use Rattle.rules.specs.Plans.{openFile, plan};
+ghost use Rattle.rules.specs.Refusals.{heldByOther};
 ghost use Rattle.recovery.specs.Budget.{Made};
 use recovery::Run;
 
@@ -26,12 +29,12 @@ fn claim(v: &mut [u8], k: u8, f: u8, left: u8) -> Run
     Run::ONE
 }
 
-// The stores of open for client k and file f: none if k holds it. Another holder, whose transaction is orphaned, is
-// recovered; then the header has holder k and the map after that recovery.
+// The stores of open for client k and file f, in any session in which no other active client holds f: none if k holds it.
+// Another holder, which is orphaned then, is recovered; last, the header has holder k and the map after that recovery.
 pub fn open_stores(v: &mut [u8], k: u8, f: u8, budget: u8) -> Run
     requires { ⌜ Known (now v) × IsFile (view (now v) .table) f
         × HeaderFacts (view (now v) .table) (view (now v) .records) f (view (now v) .headers f) ⌝ }
-    ensures { λ r. ⌜ ((s : Session)
+    ensures { λ r. ⌜ ((s : Session) → heldByOther (view (now (v .entry))) s k f ≡ false
         → Made budget (now (v .entry)) (plan (view (now (v .entry))) s (openFile k f)) (now (v .exit)) (r .made) (r .crashed)) ⌝ }
 {
     let holder = volume::holder(v, f);

@@ -50,7 +50,8 @@ returns-2 c =
     let q = b .before .before .before .before in
     let s = q .before .before .before in
     let e = (ap numberOf (sym (b .before .before .enum-told .given .1)) ∙ q .check-open .ensures) in
-    c .end .ensures (b .open-stores .last .0) ∙ (ended-call (s .args .v .now) (s .args .s) (openFile (s .args .k) (s .args .f)) (s .args .budget) e (b .open-stores .last .0) (b .open-stores .result .made) (b .open-stores .result .crashed) (b .open-stores .ensures (s .args .s)))
+    let w = opens (s .args .v .now) (s .args .s) (s .args .k) (s .args .f) e in
+    c .end .ensures (b .open-stores .last .0) ∙ (ended-call (s .args .v .now) (s .args .s) (openFile (s .args .k) (s .args .f)) (s .args .budget) e (b .open-stores .last .0) (b .open-stores .result .made) (b .open-stores .result .crashed) (b .open-stores .ensures (s .args .s) (w .2)))
 
 pub open-spec : {M : Type 1} → statement M
 open-spec = tie.close (tie.spec check-open-requires enum-known-r refuse-requires enum-told open-stores-requires end-requires same-length returns same-length-2 returns-2)

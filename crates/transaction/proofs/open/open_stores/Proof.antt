@@ -17,7 +17,7 @@ returns : tie.Need-returns
 returns c =
     let h = c .before in
     let a = h .before .before .before .args in
-    λ t. rw (own-plan (view (a .v .now)) t (a .k) (a .f) (sym (h .holder .ensures) ∙ c .if1 .taken)) made-none
+    λ t free. rw (own-plan (view (a .v .now)) t (a .k) (a .f) (sym (h .holder .ensures) ∙ c .if1 .taken)) made-none
 
 claim-requires : tie.Need-claim-requires
 claim-requires c κs = search needs
@@ -32,7 +32,7 @@ returns-2 c =
     let h = y .before .before in
     let a = h .before .before .before .args in
     let holder = sym (h .holder .ensures) in
-    λ t. rw (free-plan (view (a .v .now)) t (a .k) (a .f) (rw holder (y .before .if1 .left)) (holder ∙ y .if2 .taken)) (cl .claim .ensures)
+    λ t free. rw (free-plan (view (a .v .now)) t (a .k) (a .f) (rw holder (y .before .if1 .left)) (holder ∙ y .if2 .taken)) (cl .claim .ensures)
 
 recover-requires : tie.Need-recover-requires
 recover-requires c κs =
@@ -50,8 +50,8 @@ returns-3 c =
     let y = r .before .before in
     let h = y .before .before in
     let s = h .before .before .before in
-    λ t. rw (c .if3 .taken) (open-cut (s .pre .0) (s .pre .1) (s .pre .2) (sym (h .holder .ensures)) (y .before .if1 .left) (y .if2 .left)
-    (rw (c .if3 .taken) at (r .recover .ensures)) t)
+    λ t free. rw (c .if3 .taken) (open-cut (s .pre .0) (s .pre .1) (s .pre .2) (sym (h .holder .ensures)) (y .before .if1 .left) (y .if2 .left)
+    (rw (c .if3 .taken) at (r .recover .ensures)) t free)
 
 sub-claim : tie.Need-sub-claim
 sub-claim c = search needs
@@ -82,8 +82,8 @@ returns-4 c =
     let y = r .before .before in
     let h = y .before .before in
     let s = h .before .before .before in
-    λ t. open-more (s .pre .0) (s .pre .1) (s .pre .2) (sym (h .holder .ensures)) (y .before .if1 .left) (y .if2 .left)
-    (rw (n .if3 .left) at (r .recover .ensures)) (cl .claim2 .ensures) t
+    λ t free. open-more (s .pre .0) (s .pre .1) (s .pre .2) (sym (h .holder .ensures)) (y .before .if1 .left) (y .if2 .left)
+    (rw (n .if3 .left) at (r .recover .ensures)) (cl .claim2 .ensures) t free
 
 pub open-stores-spec : {M : Type 1} → statement M
 open-stores-spec =
