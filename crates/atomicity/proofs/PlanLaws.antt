@@ -16,9 +16,8 @@ use Rattle.sector.proofs.ListLaws.{and-left, and-right, or-right, no-both}
 use Rattle.sector.proofs.CaseLaws.{by-equal, if-test, if-equal}
 use Rattle.volume.specs.Places.{isFile}
 use Rattle.volume.specs.Views.{View, Update, setRecord, setHeader, changed, changedBy}
-use Rattle.volume.specs.Lawful.{HeaderFacts}
 use Rattle.volume.proofs.PlaceLaws.{IsFile, file-of}
-use Rattle.volume.proofs.LawfulLaws.{Lawful, idle-facts, open-facts, placed-record, placed-header}
+use Rattle.volume.proofs.LawfulLaws.{HeaderFacts, Lawful, idle-facts, open-facts, placed-record, placed-header}
 use Rattle.volume.proofs.AlongLaws.{Along, last, step, last-record}
 use Rattle.rules.specs.Sessions.{isActive, isOrphaned}
 use Rattle.rules.specs.Recovery.{isDecided, mapAfter, heldFiles, recovery}

@@ -1,13 +1,13 @@
 -- What the stores of a call rely on, from its tests, none of which held.
 use mathlib.Core.Path.{_≡_, refl, sym}
-use mathlib.Core.Bool.{false}
+use mathlib.Core.Bool.{true, false}
 use Prim.Native.Nat.{ℕ, _≤_}
 use native.Mathlib.Omega.{arith}
 use Rattle.interface.specs.declared.Session.{Session}
 use Rattle.sector.specs.Lists.{first}
 use Rattle.sector.specs.Sectors.{Volume}
 use Rattle.volume.specs.Places.{IsClient, IsFile}
-use Rattle.volume.specs.Lawful.{HeaderFacts}
+use Rattle.volume.specs.Lawful.{headerFits}
 use Rattle.volume.specs.Volumes.{view}
 use Rattle.volume.specs.Sound.{sound}
 use Rattle.volume.specs.Known.{Known}
@@ -60,7 +60,7 @@ acts v s k e =
 
 -- A file that may be opened.
 pub opens : (v : Volume) (s : Session) (k f : ℕ) → 0 ≡ first (tests (sound v) (view v) s (openFile k f))
-    → IsFile (view v .table) f × HeaderFacts (view v .table) (view v .records) f (view v .headers f)
+    → IsFile (view v .table) f × (headerFits (view v .records) (view v .table) f (view v .headers f) ≡ true)
     × (heldByOther (view v) s k f ≡ false)
 opens v s k f e =
     let w = allowed v s (openFile k f) (sym e) in

@@ -18,11 +18,11 @@ use Rattle.sector.proofs.CaseLaws.{by-test, by-equal}
 use Rattle.sector.proofs.SearchLaws.{or-true, every-implies, first-none}
 use Rattle.volume.specs.Places.{isClient, isFile, fileAt}
 use Rattle.volume.specs.Views.{View}
-use Rattle.volume.specs.Lawful.{lawful, HeaderFacts}
+use Rattle.volume.specs.Lawful.{lawful}
 use Rattle.volume.specs.Volumes.{view}
 use Rattle.volume.specs.Sound.{sound}
 use Rattle.volume.proofs.PlaceLaws.{IsFile, client-of, file-of}
-use Rattle.volume.proofs.LawfulLaws.{Lawful, lawful-facts}
+use Rattle.volume.proofs.LawfulLaws.{HeaderFacts, Lawful, lawful-facts}
 use Rattle.rules.specs.Sessions.{holds, isActive, markFits, sessionFits}
 use Rattle.rules.specs.Recovery.{isDecided}
 use Rattle.rules.specs.Plans.{Call, begin, openFile, write, commit, abort, freeSlots, heldByOrphan}

@@ -11,9 +11,10 @@ use Rattle.sector.specs.Contents.{Header}
 use Rattle.sector.specs.Sectors.{Volume}
 use Rattle.volume.specs.Places.{IsClient, IsFile}
 use Rattle.volume.specs.Views.{View, setHeader}
-use Rattle.volume.specs.Lawful.{HeaderFacts}
+use Rattle.volume.specs.Lawful.{headerFits}
 use Rattle.volume.specs.Volumes.{view}
 use Rattle.volume.specs.Known.{Known}
+use Rattle.volume.proofs.LawfulLaws.{HeaderFacts, header-facts}
 use Rattle.rules.specs.Recovery.{isDecided, mapAfter, recovery}
 use Rattle.rules.specs.Plans.{openFile, openPlan, plan}
 use Rattle.rules.specs.Refusals.{heldByOther}
@@ -43,8 +44,11 @@ module _ (a : View) (s : Session) (k f : ℕ) where
 
 -- Another client, h, holds the file.
 module _ {v : Volume} (known : Known v) {k f h : ℕ} (file : IsFile (view v .table) f)
-    (facts : HeaderFacts (view v .table) (view v .records) f (view v .headers f)) (e : view v .headers f .holder ≡ h)
+    (fits : headerFits (view v .records) (view v .table) f (view v .headers f) ≡ true) (e : view v .headers f .holder ≡ h)
     (n : h ≢ k) (z : h ≢ 0) where
+  facts : HeaderFacts (view v .table) (view v .records) f (view v .headers f)
+  facts = header-facts (view v .table) (view v .records) f (view v .headers f) fits
+
   some : view v .headers f .holder ≢ 0
   some = rw e z
 

@@ -1,5 +1,6 @@
 -- What the stores of a call require, from the tests of the call: none of them held.
 use mathlib.Core.Path.{_≡_, refl}
+use mathlib.Core.Bool.{true}
 use mathlib.Core.Logic.{_≢_}
 use mathlib.Core.Option.{none, some}
 use Prim.Native.Nat.{ℕ, _<_}
@@ -10,8 +11,8 @@ use Rattle.interface.specs.declared.Session.{Session}
 use Rattle.sector.specs.Contents.{Bytes, Entry}
 use Rattle.volume.specs.Places.{IsClient, fileAt}
 use Rattle.volume.specs.Views.{View}
-use Rattle.volume.specs.Lawful.{HeaderFacts}
-use Rattle.volume.proofs.LawfulLaws.{RecordFacts, entry-facts}
+use Rattle.volume.specs.Lawful.{headerFits}
+use Rattle.volume.proofs.LawfulLaws.{RecordFacts, entry-facts, header-fits}
 use Rattle.rules.specs.Plans.{entryFor, chosen}
 use Rattle.rules.proofs.AllowedLaws.{MayBegin, MayAct, MayOpen, MayWrite}
 use Rattle.rules.proofs.ChoiceLaws.{chosen-free}
@@ -24,8 +25,8 @@ module _ {a : View} {s : Session} {k : ℕ} where
   pub act-client : MayAct a s k → IsClient (a .table) k
   act-client w = record { low = w .active .low; high = w .running .client }
 
-  pub open-header : {f : ℕ} → MayOpen a s k f → HeaderFacts (a .table) (a .records) f (a .headers f)
-  open-header {f} w = w .act .ready .laws .headers f (w .file)
+  pub open-header : {f : ℕ} → MayOpen a s k f → headerFits (a .records) (a .table) f (a .headers f) ≡ true
+  open-header {f} w = header-fits (a .table) (a .records) f (a .headers f) (w .act .ready .laws .headers f (w .file))
 
   module _ {f p : ℕ} {d : Bytes} (w : MayWrite a s k f p d) where
     own : RecordFacts (a .table) (a .records k)

@@ -1,11 +1,11 @@
 // The stores of open.
 ghost use mathlib.Core.Path.{_≡_};
-ghost use mathlib.Core.Bool.{false};
+ghost use mathlib.Core.Bool.{true, false};
 ghost use mathlib.Core.List.{[], _∷_};
 ghost use Rattle.interface.specs.declared.Session.{Session};
 ghost use Rattle.volume.specs.Places.{IsFile};
 ghost use Rattle.volume.specs.Views.{setHeader};
-ghost use Rattle.volume.specs.Lawful.{HeaderFacts};
+ghost use Rattle.volume.specs.Lawful.{headerFits};
 ghost use Rattle.volume.specs.Volumes.{view};
 ghost use Rattle.volume.specs.Known.{Known};
 ghost use Rattle.rules.specs.Plans.{openFile, plan};
@@ -33,7 +33,7 @@ fn claim(v: &mut [u8], k: u8, f: u8, left: u8) -> Run
 // Another holder, which is orphaned then, is recovered; last, the header has holder k and the map after that recovery.
 pub fn open_stores(v: &mut [u8], k: u8, f: u8, budget: u8) -> Run
     requires { ⌜ Known (now v) × IsFile (view (now v) .table) f
-        × HeaderFacts (view (now v) .table) (view (now v) .records) f (view (now v) .headers f) ⌝ }
+        × (headerFits (view (now v) .records) (view (now v) .table) f (view (now v) .headers f) ≡ true) ⌝ }
     ensures { λ r. ⌜ ((s : Session) → heldByOther (view (now (v .entry))) s k f ≡ false
         → Made budget (now (v .entry)) (plan (view (now (v .entry))) s (openFile k f)) (now (v .exit)) (r .made) (r .crashed)) ⌝ }
 {
