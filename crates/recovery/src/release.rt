@@ -97,7 +97,6 @@ fn release(v: &mut [u8], k: u8, redo: bool, budget: u8) -> Run
 }
 
 // Client k is recovered by its record's state: nothing to do if it is idle, undone if it is open, redone if it is decided.
-// On another byte, which no sound volume has there, nothing is stored.
 pub fn recover(v: &mut [u8], k: u8, budget: u8) -> Run
     requires { ⌜ Known (now v) × IsClient (view (now v) .table) k ⌝ }
     ensures { λ r. ⌜ Made budget (now (v .entry)) (recoveryNow (view (now (v .entry))) k) (now (v .exit)) (r .made) (r .crashed) ⌝ }
@@ -107,6 +106,8 @@ pub fn recover(v: &mut [u8], k: u8, budget: u8) -> Run
         0 => Run::NONE,
         1 => release(v, k, false, budget),
         2 => release(v, k, true, budget),
+        // Never taken: no sound volume has another byte there. The soundness test has refused it by 1 before, and `Known` says
+        // that the record fits.
         _ => Run::NONE,
     }
 }

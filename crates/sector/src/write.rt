@@ -1,4 +1,4 @@
-// The one store: whatever changes a volume does so by it, a whole sector at a time.
+// The one store: each call but format changes a volume by it alone. It goes byte by byte, and its contract says what it leaves.
 ghost use mathlib.Core.Path.{_≡_};
 ghost use Prim.Native.Nat.{_+_, _*_, _≤_};
 ghost use lib.ListN.{length};

@@ -6,7 +6,7 @@ use mathlib.Core.Bool.{Bool, true, false, not, _&&_, _||_, and-assoc, and-true}
 use mathlib.Core.List.{List, [], _∷_, _++_}
 use Prim.Native.Nat.{ℕ, zero, suc, _+_, _*_, _-_, _<_, _≤_}
 use native.Mathlib.Omega.{arith}
-use borrow.Author.Tests.{leb-true, le-leb, lt-leb, lt-ltb, le-ltb}
+use borrow.Author.Tests.{ne-eqb, leb-true, le-leb, lt-leb, lt-ltb, le-ltb}
 use lib.Dec.{eqb, leb}
 use lib.ListN.{length, take, drop, length-drop}
 use lib.Seq.{drop-drop, getD-drop}
@@ -20,7 +20,7 @@ use Rattle.sector.proofs.CodecLaws.{entries-length, decode-entries-length}
 use Rattle.volume.specs.Lawful.{entryFits, recordFits}
 use Rattle.volume.specs.Sound.{isRecordEncoding}
 use Rattle.soundness.specs.Bytes.{allZero, marked}
-use Rattle.soundness.specs.Record.{emptyIfIdle, recordHeadTest, entryTest, entriesTest, entriesIn, pagesDiffer, slotsDiffer, entriesDiffer, recordTest, recordSound}
+use Rattle.soundness.specs.Record.{stateFits, recordHeadTest, entryTest, entriesTest, entriesIn, pagesDiffer, slotsDiffer, entriesDiffer, recordTest, recordSound}
 use Rattle.sector.proofs.TestLaws.{iff, and-swap, all-no, all-of, all-last, none, _also_, final, _then_}
 use Rattle.soundness.proofs.BytesLaws.{same-padding}
 use Rattle.soundness.proofs.DecodingLaws.{same-self, first-four, first-eight, firstEntry, first-entry, files-are, file-is}
@@ -60,6 +60,16 @@ walk-is t d (suc n) i l q =
     (and-swap (entryFits t (firstEntry l)) (eqb (byte l 3) 0) _ _)
 
 -- ------------------------------------------------------------------ the whole record
+-- The cases of the state are two tests of `recordFits`: it is one of the three, and an idle record has no entries.
+state-is : (s c : ℕ) → stateFits s c ≡ (leb s 2 && (not (eqb s 0) || eqb c 0))
+unfolding stateFits
+state-is zero c = refl
+state-is (suc zero) c = refl
+state-is (suc (suc zero)) c = refl
+state-is (suc (suc (suc s))) c =
+    let n = suc (suc (suc s)) in
+    rw (ne-eqb n 0 (omega arith), ne-eqb n 1 (omega arith), ne-eqb n 2 (omega arith), lt-leb n 2 (omega arith))
+
 -- What `same` against the encoding comes to.
 abbrev encodedBy : Bytes → Bool
 encodedBy d = all
@@ -106,20 +116,21 @@ module _ (t : Table) (d : Bytes) (len : length d ≡ 256) where
   walk-whole = walk-is t d (byte d 3) 0 (drop 8 d) refl
 
   record-to : recordTest t d ≡ true → recordSound t d ≡ true
-  unfolding recordTest recordHeadTest emptyIfIdle entriesTest entriesDiffer entriesIn recordSound decodeRecord
+  unfolding recordTest recordHeadTest entriesTest entriesDiffer entriesIn recordSound decodeRecord
   record-to e =
       let head : recordHeadTest d ≡ true = all-at _ 0 e in
       let walk : (fit && closed) ≡ true = sym walk-whole ∙ all-at _ 2 e in
       let pairs : (pagesDiffer es && slotsDiffer es) ≡ true = all-at _ 3 e in
+      let state = sym (state-is (byte d 2) (byte d 3)) ∙ all-at _ 1 head in
       and-both (isRecordEncoding d) (recordFits t (decodeRecord d))
       (rw (encoding-is d len (head-count d head), drop-drop (4 * byte d 3) 8 d)
-      (all-of (all-at _ 0 head also all-at _ 4 head also and-right fit _ walk also all-at _ 1 e also none)))
+      (all-of (all-at _ 0 head also all-at _ 3 head also and-right fit _ walk also all-at _ 1 e also none)))
       (rw (decode-entries-length (byte d 3) (drop 8 d))
-      (all-of (all-at _ 1 head also all-at _ 2 head also and-left fit _ walk
-      also and-left (pagesDiffer es) _ pairs also and-right (pagesDiffer es) _ pairs also all-at _ 3 head also none)))
+      (all-of (and-left (leb (byte d 2) 2) _ state also all-at _ 2 head also and-left fit _ walk
+      also and-left (pagesDiffer es) _ pairs also and-right (pagesDiffer es) _ pairs also and-right (leb (byte d 2) 2) _ state also none)))
 
   record-from : recordSound t d ≡ true → recordTest t d ≡ true
-  unfolding recordTest recordHeadTest emptyIfIdle entriesTest entriesDiffer entriesIn recordSound decodeRecord
+  unfolding recordTest recordHeadTest entriesTest entriesDiffer entriesIn recordSound decodeRecord
   record-from e =
       let fits : recordFits t (decodeRecord d) ≡ true = and-right (isRecordEncoding d) _ e in
       let few : leb (byte d 3) 62 ≡ true = rw (decode-entries-length (byte d 3) (drop 8 d)) at (all-at _ 1 fits) in
@@ -128,8 +139,9 @@ module _ (t : Table) (d : Bytes) (len : length d ≡ 256) where
       let rest : allZero (drop (8 + 4 * byte d 3) d) ≡ true = rw (drop-drop (4 * byte d 3) 8 d) at (all-at _ 3 bytes) in
       let walk : (fit && closed) ≡ true = and-both fit _ (all-at _ 2 fits) (all-at _ 2 bytes) in
       let pairs : (pagesDiffer es && slotsDiffer es) ≡ true = and-both (pagesDiffer es) _ (all-at _ 3 fits) (all-at _ 4 fits) in
+      let state = state-is (byte d 2) (byte d 3) ∙ and-both (leb (byte d 2) 2) _ (all-at _ 0 fits) idle in
       all-of
-      (all-of (all-at _ 0 bytes also all-at _ 0 fits also few also idle also all-at _ 1 bytes also none)
+      (all-of (all-at _ 0 bytes also state also few also all-at _ 1 bytes also none)
       also rest also walk-whole ∙ walk also pairs also none)
 
   record-is : recordTest t d ≡ recordSound t d

@@ -1,10 +1,10 @@
 -- An intentions record, as a program tests it: entry by entry, by index.
-use mathlib.Core.Bool.{Bool, not, _&&_, _||_}
+use mathlib.Core.Bool.{Bool, _&&_, _||_}
 use mathlib.Core.List.{List, [], _∷_, map}
 use Prim.Native.Nat.{ℕ, _+_, _*_, _-_, _≤_, _<_}
 use lib.Dec.{eqb, leb}
 use lib.ListN.{take, drop}
-use Rattle.sector.specs.Lists.{all, every, distinct, from}
+use Rattle.sector.specs.Lists.{if_then_else_, all, every, distinct, from}
 use Rattle.sector.specs.Contents.{Bytes, Table, Entry}
 use Rattle.sector.specs.Sectors.{Volume, sector, byte}
 use Rattle.sector.specs.Decoding.{headerSectorIn, decodeEntries, decodeRecord, entryIn}
@@ -13,17 +13,16 @@ use Rattle.volume.specs.Lawful.{entryFits, recordFits}
 use Rattle.volume.specs.Sound.{isRecordEncoding}
 use Rattle.soundness.specs.Bytes.{allZero, marked}
 
--- The record is not idle, or has no entries.
-unfoldable pub emptyIfIdle : Bytes → Bool
-emptyIfIdle d = not (eqb (byte d 2) 0) || eqb (byte d 3) 0
+-- State s fits c entries: idle (0) has none, open (1) and decided (2) have any number. No other byte is a state.
+unfoldable pub stateFits : ℕ → ℕ → Bool
+stateFits s c = if eqb s 0 then eqb c 0 else (eqb s 1 || eqb s 2)
 
 -- The first eight bytes fit.
 unfoldable pub recordHeadTest : Bytes → Bool
 recordHeadTest d = all
     (marked d 0x49
-    ∷ leb (byte d 2) 2
+    ∷ stateFits (byte d 2) (byte d 3)
     ∷ leb (byte d 3) 62
-    ∷ emptyIfIdle d
     ∷ allZero (take 4 (drop 4 d))
     ∷ [])
 

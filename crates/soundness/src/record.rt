@@ -15,7 +15,7 @@ ghost use Prim.Native.Nat.{_+_, _*_, _≤_, _<_};
 ghost use lib.ListN.{length};
 ghost use Rattle.sector.specs.Sectors.{byte};
 ghost use Rattle.sector.specs.Decoding.{decodeTable};
-ghost use Rattle.soundness.specs.Record.{emptyIfIdle, recordHeadTest, entryTest, entriesTest, entriesDiffer, sectorFor, sectorsFor, Placed, recordSound};
+ghost use Rattle.soundness.specs.Record.{stateFits, recordHeadTest, entryTest, entriesTest, entriesDiffer, sectorFor, sectorsFor, Placed, recordSound};
 ghost use Rattle.soundness.specs.Table.{tableSound};
 ghost use Rattle.soundness.specs.Distinct.{distinctBelow};
 
@@ -50,27 +50,28 @@ fn head_fits(d: &[u8]) -> bool
     if !has_mark(d, Sector::RECORD_MARK) {
         return false;
     }
-    if 2 < d[2] {
+    if !state_fits(d) {
         return false;
     }
     if Sector::ENTRY_LIMIT < size(d[3]) {
         return false;
     }
-    if !empty_if_idle(d) {
-        return false;
-    }
     all_zero(&d[4..HEAD])
 }
 
-// Whether the record is not idle, or has no entries.
-fn empty_if_idle(d: &[u8]) -> bool
+// Whether the state is one that there is, and fits the number of entries: none if it is idle (0), any if it is open (1) or
+// decided (2). Every other byte is refused.
+fn state_fits(d: &[u8]) -> bool
     requires { ⌜ length (now d) ≡ 256 ⌝ }
-    ensures { λ r. ⌜ r ≡ emptyIfIdle (now (d .entry)) ⌝ }
+    ensures { λ r. ⌜ r ≡ stateFits (byte (now (d .entry)) 2) (byte (now (d .entry)) 3) ⌝ }
 {
-    if d[2] != 0 {
-        return true;
+    let state = d[2];
+    match state {
+        0 => d[3] == 0,
+        1 => true,
+        2 => true,
+        _ => false,
     }
-    d[3] == 0
 }
 
 // Whether each of the n entries names a file, a page and a slot that there are.

@@ -14,12 +14,12 @@ returns : tie.Need-returns
 unfolding recordHeadTest
 returns c = sym (all-no _ 0 (sym (c .before .has-mark .ensures) ∙ not-true _ (c .if1 .taken)))
 
-shared-slice-read-if2 : tie.Need-shared-slice-read-if2
-shared-slice-read-if2 c = search needs
+state-fits-requires : tie.Need-state-fits-requires
+state-fits-requires c κs = search needs
 
 returns-2 : tie.Need-returns-2
 unfolding recordHeadTest
-returns-2 c = sym (all-no _ 1 (lt-leb _ _ (c .if2 .taken)))
+returns-2 c = sym (all-no _ 1 (sym (c .before .state-fits .ensures) ∙ not-true _ (c .if2 .taken)))
 
 shared-slice-read-size : tie.Need-shared-slice-read-size
 shared-slice-read-size c = search needs
@@ -30,13 +30,6 @@ size-requires c κs = search needs
 returns-3 : tie.Need-returns-3
 unfolding recordHeadTest
 returns-3 c = sym (all-no _ 2 (rw (← c .before .size .ensures .0) (lt-leb _ _ (c .if3 .taken))))
-
-empty-if-idle-requires : tie.Need-empty-if-idle-requires
-empty-if-idle-requires c κs = search needs
-
-returns-4 : tie.Need-returns-4
-unfolding recordHeadTest
-returns-4 c = sym (all-no _ 3 (sym (c .before .empty-if-idle .ensures) ∙ not-true _ (c .if4 .taken)))
 
 sub-all-zero : tie.Need-sub-all-zero
 sub-all-zero c = search needs
@@ -50,18 +43,16 @@ part-all-zero-end c = search needs
 all-zero-requires : tie.Need-all-zero-requires
 all-zero-requires c κs = search needs
 
-returns-5 : tie.Need-returns-5
+returns-4 : tie.Need-returns-4
 unfolding recordHeadTest
-returns-5 c =
-    let e4 = c .before .before in
-    let e3 = e4 .before .before in
+returns-4 c =
+    let e3 = c .before .before in
     let e2 = e3 .before .before .before in
     let e1 = e2 .before .before in
     c .all-zero .ensures
     ∙ sym (all-last (sym (e1 .before .has-mark .ensures) ∙ not-false _ (e1 .if1 .left)
-    then le-leb _ _ (e2 .if2 .left)
+    then sym (e2 .before .state-fits .ensures) ∙ not-false _ (e2 .if2 .left)
     then rw (← e3 .before .size .ensures .0) (le-leb _ _ (e3 .if3 .left))
-    then sym (e4 .before .empty-if-idle .ensures) ∙ not-false _ (e4 .if4 .left)
     then final))
 
 pub head-fits-spec : {M : Type 1} → statement M
@@ -70,15 +61,13 @@ head-fits-spec =
     (tie.spec
     has-mark-requires
     returns
-    shared-slice-read-if2
+    state-fits-requires
     returns-2
     shared-slice-read-size
     size-requires
     returns-3
-    empty-if-idle-requires
-    returns-4
     sub-all-zero
     part-all-zero-start
     part-all-zero-end
     all-zero-requires
-    returns-5)
+    returns-4)
