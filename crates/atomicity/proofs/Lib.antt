@@ -10,3 +10,4 @@ pub mod ReturnLaws
 pub mod NotHollow
 pub mod FreshLaws
 pub mod Progress
+pub mod ModelExamples

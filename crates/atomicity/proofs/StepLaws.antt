@@ -31,19 +31,19 @@ use Rattle.rules.proofs.CallLaws.{call-case, read-found, read-case}
 use Rattle.rules.proofs.SessionLaws.{none-active}
 use Rattle.rules.proofs.AllowedLaws.{Active, MayRead, readable, allowed, allowed-sound}
 use Rattle.rules.proofs.ContentLaws.{decided-slot}
-use Rattle.atomicity.specs.Model.{Pending, Model, orElse, overlaid, shown, emptied, effect, settled, modelCall}
+use Rattle.atomicity.specs.Model.{Pending, Model, orElse, overlaid, shown, emptied, effect, modelCall}
 use Rattle.atomicity.specs.AllOrNone.{ReadAgrees}
 use Rattle.atomicity.proofs.KeepLaws.{bytesFor, pendingIn}
 use Rattle.atomicity.proofs.WriteLaws.{own-record, own-map, plan-lawful}
 use Rattle.atomicity.proofs.RelationLaws.{Matches, Faithful, faithful, faithful-matches, new-matches, Outcome, outcome}
 
 -- ------------------------------------------------------------------ a call
-refused-matches : (a : View) (s : Session) (m : Model) → Faithful a s m → (c : Call) (n : ℕ) → Matches a s (effect m c (refused n))
-refused-matches a s m h (begin k) n = faithful-matches a s m h
-refused-matches a s m h (openFile k f) n = faithful-matches a s m h
-refused-matches a s m h (write k f p d) n = faithful-matches a s m h
-refused-matches a s m h (commit k) n = faithful-matches a s m h
-refused-matches a s m h (abort k) n = faithful-matches a s m h
+refused-matches : (a : View) (s : Session) (m : Model) → Matches a s m → (c : Call) (n : ℕ) → Matches a s (effect m c (refused n))
+refused-matches a s m h (begin k) n = h
+refused-matches a s m h (openFile k f) n = h
+refused-matches a s m h (write k f p d) n = h
+refused-matches a s m h (commit k) n = h
+refused-matches a s m h (abort k) n = h
 
 -- A call that isn't refused: its updates have their places, and the views on the way are lawful.
 pub lawful-along : (v : Volume) (s : Session) (c : Call) → first (tests (sound v) (view v) s c) ≡ 0
@@ -54,8 +54,8 @@ pub call-matches : (v : Volume) (s : Session) (m : Model) → Matches (view v) s
     → let x = call v s c budget in Matches (view (x .volume)) (x .session) (modelCall m s c (x .answer))
 unfolding modelCall
 call-matches v s m h c budget =
-    call-case (λ (x : After). Matches (view (x .volume)) (x .session) (settled (x .answer) (effect m′ c (x .answer)))) v s c budget
-    (λ n e. refused-matches (view v) s m′ clear c (suc n))
+    call-case (λ (x : After). Matches (view (x .volume)) (x .session) (modelCall m s c (x .answer))) v s c budget
+    (λ n e. refused-matches (view v) s m′ (faithful-matches (view v) s m′ clear) c (suc n))
     (λ e. rw (along-view v (allowed-sound v s c e) (lawful-along v s c e)) (out e .ends _))
     (λ e. rw (prefix-view v (allowed-sound v s c e) (lawful-along v s c e) budget) (new-matches _ _ (out e .crashes budget)))
   where
