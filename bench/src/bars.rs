@@ -4,8 +4,16 @@
 
 pub const STACK_LIMIT: usize = 1024;
 
-/// Calls that may be above Rust, each with the place and the reason.
-const EXCEPTIONS: &[(&str, &str, &str)] = &[(
+/// What a call may be above Rust in.
+#[derive(Clone, Copy, PartialEq)]
+enum Measure {
+    Instructions,
+    Time,
+}
+
+/// Calls that may be above Rust: the measure, the place, the call and the reason.
+const EXCEPTIONS: &[(Measure, &str, &str, &str)] = &[(
+    Measure::Time,
     "small",
     "format",
     "each control sector is built in the working sector, and its copy waits for the bytes just written",
@@ -30,7 +38,7 @@ impl Bars {
             return;
         }
         let above = format!("{place}, {call}: {library} instructions, {rust} in Rust");
-        match reason(place, call) {
+        match reason(Measure::Instructions, place, call) {
             Some(reason) => self.excused.push(format!("{above}: {reason}")),
             None => self.missed.push(above),
         }
@@ -39,7 +47,7 @@ impl Bars {
     /// Notes the nanoseconds of one call, the library's first.
     pub fn time(&mut self, place: &str, call: &str, [library, rust]: [f64; 2]) {
         if library > rust {
-            let reason = reason(place, call).unwrap_or("no exception, measure again");
+            let reason = reason(Measure::Time, place, call).unwrap_or("no exception, measure again");
             self.longer.push(format!("{place}, {call}: {library:.0} ns, {rust:.0} in Rust: {reason}"));
         }
     }
@@ -72,8 +80,9 @@ impl Bars {
 }
 
 /// Why the call may be above Rust there, if it may.
-fn reason(place: &str, call: &str) -> Option<&'static str> {
-    EXCEPTIONS.iter().find(|&&(at, name, _)| (at, name) == (place, call)).map(|&(_, _, reason)| reason)
+fn reason(measure: Measure, place: &str, call: &str) -> Option<&'static str> {
+    let exception = EXCEPTIONS.iter().find(|&&(what, at, name, _)| (what, at, name) == (measure, place, call));
+    exception.map(|&(_, _, _, reason)| reason)
 }
 
 pub fn ratio(library: u64, rust: u64) -> f64 {

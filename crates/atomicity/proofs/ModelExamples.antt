@@ -142,7 +142,7 @@ crashed-at-0 : leave both (crashed 0) ≡ replicate 5 dropped
 unfolding modelCall
 crashed-at-0 = refl
 
--- "Anything else changes nothing": so it is of a write and an abort that are cut, before that.
+-- "Anything else changes nothing": so it is of a write and an abort that are cut, before all is dropped.
 crashed-before : map (λ c. stateOf (effect busy c (crashed 1))) (write 1 1 1 E ∷ abort 1 ∷ []) ≡ unchanged ∷ unchanged ∷ []
 unfolding modelCall
 crashed-before = refl
@@ -203,7 +203,7 @@ call-step : (r : Run) (crash : Bool) (c : Call) (budget : ℕ)
 unfolding stepped
 call-step r crash c budget = refl
 
--- "A read changes nothing", after a crash neither.
+-- "A read changes nothing", nor after a crash.
 read-step : (r : Run) (crash : Bool) (k f p : ℕ) → stepped r (reads crash k f p) ≡ r
 unfolding stepped
 read-step r crash k f p = refl

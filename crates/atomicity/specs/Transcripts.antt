@@ -55,9 +55,14 @@ ShowsPage d (ofCall x) bytes part = ⊥
 ShowsPage d (ofRead (found n)) bytes part = (bytes ≡ d) × (part ≡ d)
 ShowsPage d (ofRead (readRefused n)) bytes part = Unit {0}
 
+-- A call answers as a call does.
+abbrev pub AnswersCall : StepAnswer → Type 0
+AnswersCall (ofCall x) = Unit {0}
+AnswersCall (ofRead x) = ⊥
+
 -- What is asked of what a step said: of a read, that it shows what the model shows to that client.
 abbrev pub EventAgrees : Model → Step → Event → Type 0
-EventAgrees m (calls crash c budget) e = Unit {0}
+EventAgrees m (calls crash c budget) e = AnswersCall (e .answer)
 EventAgrees m (reads crash k f p) e = ShowsPage (shown m k f p) (e .answer) (e .bytes) (e .part)
 
 -- The steps said this, one thing each, and left this volume: all of it agrees with the model, which starts from m while s is the

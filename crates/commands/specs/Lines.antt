@@ -36,7 +36,7 @@ ramp seed n = values (λ i. (seed + i) % 256) n
 abbrev pub lineData : Bytes → Bytes
 lineData l = ramp (byteArgument 4 l) (dataLength l)
 
--- Which argument is the BUDGET: the last one. A read has none.
+-- Which argument is the BUDGET: the last one. A read has none, and what its budget is says nothing.
 abbrev pub budgetPlace : Action → ℕ
 budgetPlace Action.Begin = 2
 budgetPlace Action.Open = 3

@@ -1,5 +1,5 @@
 // Commands: the calls of scripts with their arguments, whatever a script is written in, and one function that performs them. A
-// step of bytes and a line of text each become a command. Also the lines that look at volume and session by hand.
+// step of bytes and a line of text each become a command. Also the lines that look at volume and session, or change them by hand.
 pub mod lines;
 pub mod looks;
 mod performer;

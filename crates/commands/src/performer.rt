@@ -37,7 +37,7 @@ fn told(r: Reply) -> Performed
 }
 
 // Performs the command; `bytes` is what a write stores. It is wrong to hand on the session that a read was given, and wrong to
-// leave a read out.
+// leave a read out. The contract is for every model, since no byte depends on it.
 pub fn perform(v: &mut [u8], s: Session, c: Command, bytes: &[u8]) -> Performed
     ensures { λ r. ⌜ ((m : Model) → IsPerformed (runOf (now (v .entry)) s m) (stepOf c (now (bytes .entry))) r (now (v .exit))) ⌝ }
 {

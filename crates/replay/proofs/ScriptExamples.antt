@@ -1,25 +1,28 @@
--- Scripts and transcripts of a few steps, byte by byte: what each step is, and what each entry says. The checker evaluates both
--- sides.
-use mathlib.Core.Path.{_≡_, refl}
+-- Scripts and transcripts of a few steps, byte by byte: what each step is, and what each entry says; and transcripts that don't
+-- agree. The checker evaluates both sides.
+use mathlib.Core.Path.{_≡_, refl, ap}
 use mathlib.Core.Bool.{true, false}
 use mathlib.Core.List.{List, [], _∷_, _++_}
 use Prim.Native.Nat.{ℕ}
+use native.Mathlib.Omega.{arith}
 use lib.ListN.{replicate}
 use Rattle.interface.specs.declared.Session.{Session}
 use Rattle.interface.specs.Answers.{newSession, done, crashed, refused, found, readRefused}
-use Rattle.sector.specs.Contents.{Bytes}
-use Rattle.sector.specs.Sectors.{padded}
+use Rattle.sector.specs.Contents.{Bytes, Table}
+use Rattle.sector.specs.Sectors.{Volume, byte, padded}
 use Rattle.rules.specs.Plans.{begin, openFile, write, commit, abort}
+use Rattle.atomicity.specs.Model.{newModel}
 use Rattle.atomicity.specs.Runs.{Step, calls, reads}
+use Rattle.atomicity.specs.AllOrNone.{PagesAgree}
 use Rattle.atomicity.specs.Transcripts.{ofCall, ofRead, Event}
 use Rattle.commands.specs.Commands.{stepOf}
 use Rattle.replay.specs.Scripts.{commandIn, isWhole, stepIn, stepsFrom, steps}
 use Rattle.replay.specs.Transcripts.{headBytes, entryOf, transcript, transcriptLength, eventIn, eventsIn}
-use Rattle.replay.specs.Replays.{hasRoom}
+use Rattle.replay.specs.Replays.{ran, hasRoom, AllOrNoneFor, WhereRun}
 
 -- ------------------------------------------------------------------ scripts
 -- Begin 1 with a budget of 255; the supply fails, and client 2 opens file 3 with a budget of 4; a write of three bytes; commit,
--- abort, a read; and a begin that isn't whole.
+-- abort, two reads, by 5 and by 255; and a begin that isn't whole.
 abbrev script : Bytes
 script =
     0 ∷ 0 ∷ 1 ∷ 0 ∷ 0 ∷ 255 ∷ 0 ∷ 0
@@ -27,7 +30,8 @@ script =
     ∷ 2 ∷ 0 ∷ 1 ∷ 2 ∷ 5 ∷ 6 ∷ 3 ∷ 0 ∷ 0xAA ∷ 0xBB ∷ 0xCC
     ∷ 3 ∷ 0 ∷ 1 ∷ 0 ∷ 0 ∷ 7 ∷ 0 ∷ 0
     ∷ 4 ∷ 0 ∷ 2 ∷ 0 ∷ 0 ∷ 8 ∷ 0 ∷ 0
-    ∷ 5 ∷ 1 ∷ 1 ∷ 2 ∷ 5 ∷ 0 ∷ 0 ∷ 0
+    ∷ 5 ∷ 2 ∷ 1 ∷ 2 ∷ 5 ∷ 0 ∷ 0 ∷ 0
+    ∷ 255 ∷ 0 ∷ 3 ∷ 4 ∷ 6 ∷ 0 ∷ 0 ∷ 0
     ∷ 0 ∷ 0 ∷ 1 ∷ 0 ∷ 0 ∷ 255 ∷ 0
     ∷ []
 
@@ -39,6 +43,7 @@ itsSteps =
     ∷ calls false (commit 1) 7
     ∷ calls false (abort 2) 8
     ∷ reads true 1 2 5
+    ∷ reads false 3 4 6
     ∷ []
 
 script-steps : steps script ≡ itsSteps
@@ -55,12 +60,12 @@ cut-step : steps (2 ∷ 0 ∷ 1 ∷ 1 ∷ 0 ∷ 255 ∷ 3 ∷ 0 ∷ 0xAA ∷ 0xB
 unfolding stepsFrom stepIn commandIn stepOf isWhole
 cut-step = refl
 
--- Four bytes for each of the five calls, 516 for the read: 536 are enough, 535 are not.
-enough-room : hasRoom script 536 ≡ true
+-- Four bytes for each of the five calls, 516 for each read: 1,052 are enough, 1,051 are not.
+enough-room : hasRoom script 1052 ≡ true
 unfolding hasRoom stepsFrom stepIn commandIn stepOf isWhole
 enough-room = refl
 
-too-little-room : hasRoom script 535 ≡ false
+too-little-room : hasRoom script 1051 ≡ false
 unfolding hasRoom stepsFrom stepIn commandIn stepOf isWhole
 too-little-room = refl
 
@@ -107,3 +112,31 @@ two-pages : eventsIn (reads false 1 2 3 ∷ []) (3 ∷ 6 ∷ 0 ∷ 0 ∷ (page +
     ≡ record { answer = ofRead (found 6); session = newSession; bytes = page; part = replicate 256 0xB2 } ∷ []
 unfolding eventIn
 two-pages = refl
+
+-- ------------------------------------------------------------------ what is claimed
+-- Where the script was run, the claim itself.
+where-run : (P : Type 0) → P → WhereRun ran P
+where-run P h = h
+
+run-where : (P : Type 0) → WhereRun ran P → P
+run-where P h = h
+
+-- The pages of the volume that is left are the model's.
+pages-claimed : (t : Table) (v : Volume) (out : Bytes) → AllOrNoneFor t [] v out → PagesAgree t newModel v
+unfolding stepsFrom
+pages-claimed t v out h = h
+
+-- A read of a new page that shows other bytes, as the sector's or as the part's, doesn't agree.
+abbrev readScript : Bytes
+readScript = 5 ∷ 0 ∷ 1 ∷ 1 ∷ 0 ∷ 0 ∷ 0 ∷ 0 ∷ []
+
+abbrev zeros : Bytes
+zeros = replicate 256 0
+
+other-bytes : (t : Table) (v : Volume) → AllOrNoneFor t readScript v (3 ∷ 4 ∷ 0 ∷ 1 ∷ (page ++ zeros)) → ⊥
+unfolding stepsFrom stepIn commandIn stepOf isWhole eventIn
+other-bytes t v h = let e : _≡_ {A = ℕ} 0xA1 0 = ap (λ (l : Bytes). byte l 0) (h .0 .0) in omega arith
+
+other-part : (t : Table) (v : Volume) → AllOrNoneFor t readScript v (3 ∷ 4 ∷ 0 ∷ 1 ∷ (zeros ++ page)) → ⊥
+unfolding stepsFrom stepIn commandIn stepOf isWhole eventIn
+other-part t v h = let e : _≡_ {A = ℕ} 0xA1 0 = ap (λ (l : Bytes). byte l 0) (h .0 .1) in omega arith

@@ -66,10 +66,20 @@ shownIn (readRefused n) d = []
 
 -- What the entry at the front says of its step.
 unfoldable pub eventIn : Step → Bytes → Event
-eventIn (calls crash c budget) l = record { answer = ofCall (answerIn (byte l 0) (word l 1)); session = sessionOf (byte l 3); bytes = []; part = [] }
+eventIn (calls crash c budget) l = record {
+  answer = ofCall (answerIn (byte l 0) (word l 1));
+  session = sessionOf (byte l 3);
+  bytes = [];
+  part = [];
+}
 eventIn (reads crash k f p) l =
     let x = readAnswerIn (byte l 0) (word l 1) in
-    record { answer = ofRead x; session = sessionOf (byte l 3); bytes = shownIn x (take 256 (drop 4 l)); part = shownIn x (take 256 (drop 260 l)) }
+    record {
+      answer = ofRead x;
+      session = sessionOf (byte l 3);
+      bytes = shownIn x (take 256 (drop 4 l));
+      part = shownIn x (take 256 (drop 260 l));
+    }
 
 -- What the transcript at the front says of these steps.
 abbrev pub eventsIn : List Step → Bytes → List Event

@@ -43,7 +43,8 @@ fn hand_back(e: Ended, s: Session) -> Replayed
 }
 
 // Performs all steps of the script, in order, and writes what each said to the front of `out`. It is wrong to read a step that
-// isn't whole, to leave a read out, and to run a part of a script whose transcript doesn't fit.
+// isn't whole, to leave a read out, and to run a part of a script whose transcript doesn't fit. The contract is for every
+// model, since no byte depends on it.
 pub fn replay(v: &mut [u8], s: Session, script: &[u8], out: &mut [u8]) -> Replayed
     ensures { λ r. ⌜ ((m : Model) → leftBy r (now (v .exit)) (now (out .exit)) ≡ replayed (runOf (now (v .entry)) s m) (now (script .entry)) (now (out .entry))) ⌝ }
 {
