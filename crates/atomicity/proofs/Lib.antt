@@ -1,3 +1,4 @@
+pub mod StatementExamples
 pub mod KeepLaws
 pub mod PlanLaws
 pub mod WriteLaws

@@ -1,1 +1,2 @@
 pub mod SessionLaws
+pub mod AnswerExamples

@@ -6,3 +6,4 @@ pub mod EditLaws
 pub mod CaseLaws
 pub mod SearchLaws
 pub mod TestLaws
+pub mod SectorExamples

@@ -1,0 +1,63 @@
+-- Sessions as bytes, and the paper's number and value for each case of an answer: evaluated, both sides are the same.
+use mathlib.Core.Path.{_≡_, refl}
+use mathlib.Core.Bool.{Bool, true, false}
+use mathlib.Core.List.{List, [], _∷_, map}
+use Prim.Native.Nat.{ℕ}
+use Rattle.interface.specs.declared.Session.{Session}
+use Rattle.interface.specs.declared.Refusal.{Refusal}
+use Rattle.interface.specs.declared.Refusal.the-variants.{NotSound, BadSession, NoClient, AlreadyActive, NotActive, NoFile, FileInUse, NotHeld, NoPage, BadPageLength, NoFreeSlot, RecordFull, BadVolumeLength, BadShape, TooFewSectors}
+use Rattle.interface.specs.declared.Outcome.{Outcome}
+use Rattle.interface.specs.declared.ReadOutcome.{ReadOutcome}
+use Rattle.interface.specs.declared.FormatOutcome.{FormatOutcome}
+use Rattle.interface.specs.Answers.{newSession, sessionOf, sessionByte, Answer, done, crashed, refused, ReadAnswer, found, readRefused, FormatAnswer, formatDone, formatRefused, refusalNumber, answerOf, readAnswerOf, formatAnswerOf}
+
+-- ------------------------------------------------------------------ sessions: newSession, sessionOf, sessionByte, markWorth
+abbrev marks : Bool → Bool → Bool → Bool → Session
+marks a b c d = record { active = a ∷ b ∷ c ∷ d ∷ [] }
+
+-- "A new session has no kiln open": of the four, none is marked.
+new-session : newSession ≡ marks false false false false
+new-session = refl
+
+-- Bits 0 to 3 are clients 1 to 4, each by itself.
+one-bit : map sessionOf (1 ∷ 2 ∷ 4 ∷ 8 ∷ [])
+    ≡ marks true false false false ∷ marks false true false false ∷ marks false false true false ∷ marks false false false true ∷ []
+one-bit = refl
+
+-- No bit, every bit, and bits above the fourth, which mark nobody.
+other-bits : map sessionOf (0 ∷ 15 ∷ 0xF0 ∷ 0xFA ∷ [])
+    ≡ newSession ∷ marks true true true true ∷ newSession ∷ marks false true false true ∷ []
+other-bits = refl
+
+-- The marks of clients 1 to 4 are worth 1, 2, 4 and 8.
+bytes-of-sessions : map sessionByte
+    (newSession ∷ marks true false false false ∷ marks false true false false ∷ marks false false true false
+    ∷ marks false false false true ∷ marks true true true true ∷ [])
+    ≡ 0 ∷ 1 ∷ 2 ∷ 4 ∷ 8 ∷ 15 ∷ []
+bytes-of-sessions = refl
+
+-- A mark that isn't there is worth nothing.
+too-few-marks : sessionByte (record { active = [] }) ≡ 0
+too-few-marks = refl
+
+-- ------------------------------------------------------------------ answers: refusalNumber, answerOf, readAnswerOf, formatAnswerOf
+-- The table under Refusals, downwards.
+refusal-numbers : map refusalNumber
+    (NotSound ∷ BadSession ∷ NoClient ∷ AlreadyActive ∷ NotActive ∷ NoFile ∷ FileInUse ∷ NotHeld ∷ NoPage ∷ BadPageLength
+    ∷ NoFreeSlot
+    ∷ RecordFull ∷ BadVolumeLength ∷ BadShape ∷ TooFewSectors ∷ [])
+    ≡ 1 ∷ 2 ∷ 3 ∷ 4 ∷ 5 ∷ 6 ∷ 7 ∷ 8 ∷ 9 ∷ 10 ∷ 11 ∷ 12 ∷ 13 ∷ 14 ∷ 15 ∷ []
+refusal-numbers = refl
+
+-- "answers cut with the number of stores made .. Otherwise it answers done with that number"; a refusal by its number.
+answers : map answerOf (Outcome.Done 4 ∷ Outcome.Crashed 3 ∷ Outcome.Refused NoFreeSlot ∷ []) ≡ done 4 ∷ crashed 3 ∷ refused 11 ∷ []
+answers = refl
+
+-- Read "answers the sector number".
+read-answers : map readAnswerOf (ReadOutcome.Sector 6 ∷ ReadOutcome.Refused NotHeld ∷ []) ≡ found 6 ∷ readRefused 8 ∷ []
+read-answers = refl
+
+-- Layout "answers done without a count".
+format-answers : map formatAnswerOf (FormatOutcome.Done ∷ FormatOutcome.Refused TooFewSectors ∷ [])
+    ≡ formatDone ∷ formatRefused 15 ∷ []
+format-answers = refl
