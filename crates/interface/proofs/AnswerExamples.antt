@@ -1,15 +1,13 @@
 -- Sessions as bytes, and the paper's number and value for each case of an answer: evaluated, both sides are the same.
 use mathlib.Core.Path.{_≡_, refl}
 use mathlib.Core.Bool.{Bool, true, false}
-use mathlib.Core.List.{List, [], _∷_, map}
-use Prim.Native.Nat.{ℕ}
+use mathlib.Core.List.{[], _∷_, map}
 use Rattle.interface.specs.declared.Session.{Session}
-use Rattle.interface.specs.declared.Refusal.{Refusal}
 use Rattle.interface.specs.declared.Refusal.the-variants.{NotSound, BadSession, NoClient, AlreadyActive, NotActive, NoFile, FileInUse, NotHeld, NoPage, BadPageLength, NoFreeSlot, RecordFull, BadVolumeLength, BadShape, TooFewSectors}
 use Rattle.interface.specs.declared.Outcome.{Outcome}
 use Rattle.interface.specs.declared.ReadOutcome.{ReadOutcome}
 use Rattle.interface.specs.declared.FormatOutcome.{FormatOutcome}
-use Rattle.interface.specs.Answers.{newSession, sessionOf, sessionByte, Answer, done, crashed, refused, ReadAnswer, found, readRefused, FormatAnswer, formatDone, formatRefused, refusalNumber, answerOf, readAnswerOf, formatAnswerOf}
+use Rattle.interface.specs.Answers.{newSession, sessionOf, sessionByte, done, crashed, refused, found, readRefused, formatDone, formatRefused, refusalNumber, answerOf, readAnswerOf, formatAnswerOf}
 
 -- ------------------------------------------------------------------ sessions: newSession, sessionOf, sessionByte, markWorth
 abbrev marks : Bool → Bool → Bool → Bool → Session

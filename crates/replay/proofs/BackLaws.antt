@@ -1,9 +1,9 @@
 -- What a transcript says is what the steps said: an entry is read back as the event that it was written for, since the session
 -- has four marks and a read that isn't refused shows 256 bytes twice; and so the whole, entry by entry.
-use mathlib.Core.Path.{_≡_, refl, ap, _∙_}
+use mathlib.Core.Path.{_≡_, refl}
 use mathlib.Core.Bool.{Bool, true, false}
 use mathlib.Core.List.{List, [], _∷_, _++_, append-assoc}
-use Prim.Native.Nat.{ℕ, _+_, _*_, _/_, _%_, _≤_}
+use Prim.Native.Nat.{ℕ, _+_, _*_, _/_, _%_}
 use native.Mathlib.Omega.{arith}
 use lib.ListN.{length, take, drop}
 use lib.Seq.{take-at, drop-at}
@@ -11,7 +11,7 @@ use Rattle.interface.specs.declared.Session.{Session}
 use Rattle.interface.specs.Answers.{Answer, done, crashed, refused, ReadAnswer, found, readRefused}
 use Rattle.interface.proofs.SessionLaws.{session-back}
 use Rattle.sector.specs.Contents.{Bytes}
-use Rattle.sector.specs.Sectors.{Volume, sector, padded}
+use Rattle.sector.specs.Sectors.{Volume, sector}
 use Rattle.sector.proofs.SectorLaws.{sector-length}
 use Rattle.volume.specs.Volumes.{view}
 use Rattle.rules.specs.Plans.{Call}

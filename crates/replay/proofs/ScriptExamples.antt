@@ -17,7 +17,7 @@ use Rattle.atomicity.specs.AllOrNone.{PagesAgree}
 use Rattle.atomicity.specs.Transcripts.{ofCall, ofRead, Event}
 use Rattle.commands.specs.Commands.{stepOf}
 use Rattle.replay.specs.Scripts.{commandIn, isWhole, stepIn, stepsFrom, steps}
-use Rattle.replay.specs.Transcripts.{headBytes, entryOf, transcript, transcriptLength, eventIn, eventsIn}
+use Rattle.replay.specs.Transcripts.{headBytes, entryOf, transcript, eventIn, eventsIn}
 use Rattle.replay.specs.Replays.{ran, hasRoom, AllOrNoneFor, WhereRun}
 
 -- ------------------------------------------------------------------ scripts

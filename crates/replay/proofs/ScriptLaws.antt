@@ -1,13 +1,13 @@
 -- The steps of a script, one by one: the first whole step, and then the steps behind it. How often one looks for a step doesn't
 -- matter, as long as it is as often as there are bytes. And the bytes of a step by their places in the script.
 use mathlib.Core.Path.{_≡_, refl, sym, ap, _∙_}
-use mathlib.Core.Bool.{Bool, true, false, true≢false}
+use mathlib.Core.Bool.{Bool, true, false}
 use mathlib.Core.List.{List, [], _∷_}
-use Prim.Native.Nat.{ℕ, zero, suc, _+_, _*_, _-_, _≤_, _<_}
+use Prim.Native.Nat.{ℕ, zero, suc, _+_, _-_, _≤_, _<_}
 use native.Mathlib.Omega.{arith}
 use borrow.Author.Tests.{le-leb, lt-leb, leb-true}
 use lib.Dec.{leb}
-use lib.ListN.{length, take, drop, getD, length-drop}
+use lib.ListN.{length, take, drop, length-drop}
 use lib.Seq.{drop-drop, getD-drop}
 use Rattle.sector.specs.Lists.{if_then_else_}
 use Rattle.sector.specs.Contents.{Bytes}

@@ -1,11 +1,10 @@
 -- The entries of a transcript: how long each is, whatever a step says, and that what is noted of a command is what its step says.
 use mathlib.Core.Path.{_≡_, refl, sym, ap, subst, _∙_}
-use mathlib.Core.Bool.{Bool, true, false}
 use mathlib.Core.List.{List, [], _∷_, _++_, append-nil}
 use Prim.Native.Nat.{ℕ, suc, _+_, _*_, _-_, _/_, _%_, _≤_, _<_}
 use native.Mathlib.Numerals.{add-one}
 use native.Mathlib.Omega.{arith}
-use lib.ListN.{length, take, drop, set, replicate, length-append, length-take, length-replicate}
+use lib.ListN.{length, take, drop, set, length-append, length-take}
 use lib.Seq.{sets, sets-eq, length-sets, getD-drop}
 use Rattle.interface.specs.declared.Session.{Session}
 use Rattle.interface.specs.declared.Refusal.{Refusal}
@@ -14,13 +13,14 @@ use Rattle.interface.specs.declared.ReadOutcome.{ReadOutcome}
 use Rattle.interface.specs.Answers.{sessionByte, Answer, done, crashed, refused, ReadAnswer, found, readRefused, refusalNumber, answerOf, readAnswerOf}
 use Rattle.sector.specs.Contents.{Bytes}
 use Rattle.sector.specs.Sectors.{Volume, sector, byte, word, padded, zeroSector}
+use Rattle.sector.proofs.CodecLaws.{padded-length}
 use Rattle.sector.proofs.SectorLaws.{sector-length}
 use Rattle.calls.proofs.PageLaws.{Inside, read-inside}
-use Rattle.rules.specs.Calls.{call, read, partOf, readPart}
+use Rattle.rules.specs.Calls.{read, partOf, readPart}
 use Rattle.listing.specs.Writes.{Wrote, atFront}
 use Rattle.atomicity.specs.Model.{Model}
 use Rattle.atomicity.specs.Runs.{Step, calls, reads, Run, given, stepped}
-use Rattle.atomicity.specs.Transcripts.{StepAnswer, ofCall, ofRead, Event, eventOf, eventsOf}
+use Rattle.atomicity.specs.Transcripts.{StepAnswer, ofCall, ofRead, eventOf, eventsOf}
 use Rattle.commands.specs.declared.Action.{Action}
 use Rattle.commands.specs.declared.Command.{Command}
 use Rattle.commands.specs.declared.Told.{Told}
@@ -28,7 +28,7 @@ use Rattle.commands.specs.declared.Performed.{Performed}
 use Rattle.commands.specs.Commands.{stepBy, stepOf, toldOf, runOf, IsPerformed}
 use Rattle.commands.proofs.CommandLaws.{step-by}
 use Rattle.replay.specs.Scripts.{actionOf, commandIn, stepIn}
-use Rattle.replay.specs.Transcripts.{headBytes, answerBytes, pageBytes, entryOf, transcript, entryLength, transcriptLength}
+use Rattle.replay.specs.Transcripts.{headBytes, answerBytes, entryOf, transcript, entryLength, transcriptLength}
 use Rattle.replay.specs.Walks.{actionLength, noted, IsAnswer}
 
 -- ------------------------------------------------------------------ lengths
@@ -42,10 +42,6 @@ answer-length (ofCall (crashed n)) s = head-length 1 n s
 answer-length (ofCall (refused n)) s = head-length 2 n s
 answer-length (ofRead (found n)) s = head-length 3 n s
 answer-length (ofRead (readRefused n)) s = head-length 2 n s
-
-padded-length : (l : Bytes) → length l ≤ 256 → length (padded l) ≡ 256
-unfolding padded
-padded-length l h = simp (length-append, length-replicate) (omega arith)
 
 part-length : (v : Volume) (x : ReadAnswer) → length (partOf v x) ≤ 256
 unfolding sector

@@ -1,5 +1,5 @@
 -- `action` meets its contract, by the number.
-use borrow.Author.Tests.{eq-eqb, ne-eqb}
+use borrow.Author.Tests.{ne-eqb}
 use Rattle.replay.proofs.steps.action.Statement.{statement}
 use Rattle.replay.proofs.steps.action.Tie as tie
 

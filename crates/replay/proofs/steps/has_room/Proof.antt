@@ -1,17 +1,15 @@
 -- `has_room` meets its contract: the room that is left decides, for the steps that are left.
-use mathlib.Core.Path.{_≡_, refl, sym, ap, _∙_}
-use mathlib.Core.Bool.{true, false}
+use mathlib.Core.Path.{_≡_, refl, sym, _∙_}
 use Prim.Native.Nat.{_+_, _-_, _≤_}
 use native.Mathlib.Omega.{arith}
 use borrow.Author.Needs.{needs}
-use borrow.Author.Tests.{le-leb}
 use lib.Dec.{leb}
 use lib.ListN.{length, drop, length-drop}
 use Rattle.replay.specs.Scripts.{steps}
 use Rattle.replay.specs.Transcripts.{transcriptLength}
 use Rattle.replay.specs.Replays.{hasRoom}
 use Rattle.replay.specs.Walks.{stepLength}
-use Rattle.replay.proofs.ScriptLaws.{Whole, whole-step, no-step}
+use Rattle.replay.proofs.ScriptLaws.{whole-step, no-step}
 use Rattle.replay.proofs.TranscriptLaws.{entry-is}
 use Rattle.replay.proofs.RunLaws.{room-left, room-over, room-none}
 use Rattle.replay.proofs.steps.has_room.Statement.{statement}

@@ -1,9 +1,9 @@
 -- `step_length` meets its contract, by the two tests of a whole step.
-use mathlib.Core.Path.{_≡_, _∙_}
-use Prim.Native.Nat.{_+_, _*_, _≤_}
+use mathlib.Core.Path.{_≡_}
+use Prim.Native.Nat.{_+_, _*_}
 use native.Mathlib.Omega.{arith}
 use borrow.Author.Needs.{needs}
-use lib.ListN.{length, drop, length-drop}
+use lib.ListN.{drop, length-drop}
 use Rattle.replay.specs.Scripts.{stepSize}
 use Rattle.replay.specs.Walks.{stepLength}
 use Rattle.replay.proofs.ScriptLaws.{short-none, cut-none, fits-whole, byte-at}

@@ -1,11 +1,7 @@
 -- `put_head` meets its contract: four bytes, one after the other.
-use mathlib.Core.Path.{_≡_, refl}
-use Prim.Native.Nat.{_+_, _/_, _%_, _<_}
-use native.Mathlib.Numerals.{add-one}
 use native.Mathlib.Omega.{arith}
 use borrow.Author.Needs.{needs}
-use lib.ListN.{length, length-set}
-use Rattle.replay.specs.Transcripts.{headBytes}
+use lib.ListN.{length-set}
 use Rattle.replay.proofs.TranscriptLaws.{wrote-head}
 use Rattle.replay.proofs.transcript.put_head.Statement.{statement}
 use Rattle.replay.proofs.transcript.put_head.Tie as tie

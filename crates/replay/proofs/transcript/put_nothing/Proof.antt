@@ -1,5 +1,4 @@
 -- `put_nothing` meets its contract: zeros twice.
-use native.Mathlib.Omega.{arith}
 use borrow.Author.Needs.{needs}
 use Rattle.listing.proofs.WritesLaws.{wrote-more}
 use Rattle.replay.proofs.TranscriptLaws.{zeros-padded}

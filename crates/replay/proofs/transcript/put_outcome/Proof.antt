@@ -1,10 +1,5 @@
 -- `put_outcome` meets its contract, by the outcome.
-use mathlib.Core.Path.{sym, ap, _∙_}
-use native.Mathlib.Omega.{arith}
 use borrow.Author.Needs.{needs}
-use Rattle.interface.specs.declared.Outcome.{Outcome}
-use Rattle.interface.specs.Answers.{answerOf}
-use Rattle.replay.specs.Transcripts.{answerBytes}
 use Rattle.replay.proofs.transcript.put_outcome.Statement.{statement}
 use Rattle.replay.proofs.transcript.put_outcome.Tie as tie
 

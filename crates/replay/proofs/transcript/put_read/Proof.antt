@@ -1,6 +1,6 @@
 -- `put_read` meets its contract: a refused read shows nothing; else the sector answered lies inside the volume, and its bytes and
 -- the part handed back follow the answer.
-use mathlib.Core.Path.{sym, ap, _∙_}
+use mathlib.Core.Path.{ap}
 use native.Mathlib.Omega.{arith}
 use borrow.Author.Needs.{needs}
 use lib.ListN.{length}
