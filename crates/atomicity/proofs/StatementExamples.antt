@@ -3,20 +3,20 @@
 use mathlib.Core.Path.{_≡_, refl, ap}
 use mathlib.Core.Bool.{Bool, true, false, false≢true}
 use mathlib.Core.List.{List, [], _∷_, _++_, map}
-use mathlib.Core.Option.{Option, none, some}
+use mathlib.Core.Option.{none, some}
 use Prim.Native.Nat.{ℕ}
 use native.Mathlib.Omega.{arith}
 use lib.Dec.{eqb}
-use lib.ListN.{length, getD, replicate, set}
+use lib.ListN.{getD, replicate, set}
 use Rattle.interface.specs.declared.Session.{Session}
 use Rattle.interface.specs.Answers.{newSession, Answer, done, crashed, refused, ReadAnswer, found, readRefused}
 use Rattle.sector.specs.Lists.{if_then_else_, all, first}
-use Rattle.sector.specs.Contents.{Bytes, File, Table, Entry, Record, Header, openRecord}
+use Rattle.sector.specs.Contents.{Bytes, Table, openRecord}
 use Rattle.sector.specs.Entries.{redone}
 use Rattle.sector.specs.Sectors.{Volume, sector, storeAt, padded}
 use Rattle.sector.specs.Encoding.{fileBytes, encodeTable, entryBytes, encodeRecord, encodeHeader}
 use Rattle.sector.specs.Decoding.{decodeFiles, decodeTable, decodeEntries, decodeRecord, decodeHeader}
-use Rattle.volume.specs.Places.{IsClient, IsFile, IsPage, sectorAfter}
+use Rattle.volume.specs.Places.{sectorAfter}
 use Rattle.volume.specs.Volumes.{tableOf, recordIn, headerIn, slotIn, view}
 use Rattle.volume.specs.Stores.{stored, allStores}
 use Rattle.volume.specs.Lawful.{lawful}

@@ -10,7 +10,7 @@ use Rattle.interface.specs.Answers.{newSession, Answer, ReadAnswer, found, read
 use Rattle.sector.specs.Contents.{Bytes, Table}
 use Rattle.sector.specs.Sectors.{Volume}
 use Rattle.volume.specs.Format.{tableFor, format}
-use Rattle.rules.specs.Calls.{After, call, read, partOf, readPart}
+use Rattle.rules.specs.Calls.{call, read, partOf, readPart}
 use Rattle.atomicity.specs.Model.{Model, newModel, shown, modelCall}
 use Rattle.atomicity.specs.Runs.{Step, calls, reads, Run, started, given, stepped, ranOver}
 use Rattle.atomicity.specs.AllOrNone.{PagesAgree}

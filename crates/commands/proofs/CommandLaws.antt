@@ -5,7 +5,7 @@ use mathlib.Core.Bool.{Bool}
 use Rattle.interface.specs.declared.Session.{Session}
 use Rattle.interface.specs.declared.Reply.{Reply}
 use Rattle.interface.specs.declared.ReadOutcome.{ReadOutcome}
-use Rattle.interface.specs.Answers.{ReadAnswer, answerOf, readAnswerOf}
+use Rattle.interface.specs.Answers.{answerOf, readAnswerOf}
 use Rattle.sector.specs.Contents.{Bytes}
 use Rattle.sector.specs.Sectors.{Volume}
 use Rattle.rules.specs.Plans.{Call}

@@ -7,7 +7,7 @@ use Rattle.sector.specs.Sectors.{Volume}
 use Rattle.rules.specs.Plans.{begin, openFile, write, commit, abort}
 use Rattle.atomicity.specs.Model.{Model}
 use Rattle.atomicity.specs.Runs.{Step, calls, reads, Run, stepped}
-use Rattle.atomicity.specs.Transcripts.{StepAnswer, ofCall, ofRead, Event, eventOf}
+use Rattle.atomicity.specs.Transcripts.{StepAnswer, ofCall, ofRead, eventOf}
 use Rattle.commands.specs.declared.Action.{Action}
 use Rattle.commands.specs.declared.Command.{Command}
 use Rattle.commands.specs.declared.Told.{Told}
