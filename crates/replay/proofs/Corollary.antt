@@ -1,10 +1,10 @@
 -- All or none for what `format_and_replay` leaves: where the script was run, the transcript says what the definitions' run says,
 -- and that agrees with the model that is fed with it.
-use mathlib.Core.Path.{_≡_, refl, sym, subst}
+use mathlib.Core.Path.{_≡_, refl, sym, ap, subst}
 use mathlib.Core.Bool.{Bool, true, false}
-use mathlib.Core.List.{List}
-use Prim.Native.Nat.{ℕ}
-use lib.ListN.{length, drop}
+use mathlib.Core.List.{List, [], _∷_}
+use Prim.Native.Nat.{ℕ, zero, suc}
+use lib.ListN.{length, take, drop}
 use Rattle.interface.specs.declared.Session.{Session}
 use Rattle.interface.specs.declared.Refusal.{Refusal}
 use Rattle.interface.specs.declared.FormatOutcome.{FormatOutcome}
@@ -14,15 +14,23 @@ use Rattle.sector.specs.Contents.{Bytes, Table}
 use Rattle.sector.specs.Sectors.{Volume}
 use Rattle.volume.specs.Format.{tableFor, format}
 use Rattle.format.specs.Outcomes.{formatted}
-use Rattle.atomicity.specs.Runs.{Step, Run, started}
-use Rattle.atomicity.specs.Transcripts.{eventsOf}
+use Rattle.atomicity.specs.Model.{newModel}
+use Rattle.atomicity.specs.Runs.{Step, Run, started, stepped, ranOver}
+use Rattle.atomicity.specs.Transcripts.{eventOf, eventsOf, SaidAgrees}
 use Rattle.atomicity.proofs.TranscriptLaws.{transcripts-agree}
 use Rattle.replay.specs.declared.Ended.{Ended}
 use Rattle.replay.specs.declared.Replayed.{Replayed}
 use Rattle.replay.specs.Scripts.{steps}
-use Rattle.replay.specs.Transcripts.{transcript}
+use Rattle.replay.specs.Transcripts.{transcript, eventsIn}
 use Rattle.replay.specs.Replays.{Left, noRoom, ran, replayAnswerOf, leftBy, hasRoom, runLeft, runFormatted, formattedAndRun, AllOrNoneFor, WhereRun}
 use Rattle.replay.proofs.BackLaws.{events-back}
+
+-- The first steps say what they say in the whole list.
+events-take : (r : Run) (xs : List Step) (n : ℕ) → eventsOf r (take n xs) ≡ take n (eventsOf r xs)
+events-take r [] zero = refl
+events-take r [] (suc n) = refl
+events-take r (x ∷ xs) zero = refl
+events-take r (x ∷ xs) (suc n) = ap (_∷_ (eventOf r x)) (events-take (stepped r x) xs n)
 
 -- What is claimed of what was left.
 abbrev pub Claimed : Table → (script : Bytes) → Left → Type 0
@@ -36,6 +44,17 @@ module _ (v : Volume) (T : ℕ) (l script out : Bytes) where
       let r : Run = started (format v T l .volume) in
       let xs : List Step = steps script in
       rw (events-back r xs (drop (length (transcript (eventsOf r xs))) out) refl) (transcripts-agree v T l d xs)
+
+  -- So it is after each step: of the first n steps, what the transcript says of them, and the volume that they leave.
+  pub after-each-step : format v T l .answer ≡ formatDone → (n : ℕ)
+      → let r = started (format v T l .volume) in
+      let xs = steps script in
+      SaidAgrees (tableFor (length v) T l) newModel newSession (take n xs) (take n (eventsIn xs (runLeft r script out .out))) (ranOver r (take n xs) .volume)
+  unfolding runLeft
+  after-each-step d n =
+      let r : Run = started (format v T l .volume) in
+      let xs : List Step = steps script in
+      rw (events-back r xs (drop (length (transcript (eventsOf r xs))) out) refl, ← events-take r xs n) (transcripts-agree v T l d (take n xs))
 
   formatted-claim : (a : FormatAnswer) → format v T l .answer ≡ a
       → Claimed (tableFor (length v) T l) script (runFormatted a (format v T l .volume) script out)
