@@ -1,134 +1,111 @@
--- Refusals at their limits, and what a read hands out, by meaning: which number the tests give, where two conditions hold at
--- once, with the record full, and with client 4 marked. The checker evaluates both sides.
+-- Examples of `Calls`: how a call ends by its budget and by its refusal, which sector a read finds, and which part of the
+-- volume it hands out. The checker evaluates both sides.
 use mathlib.Core.Path.{_≡_, refl}
-use mathlib.Core.Bool.{Bool, true, false}
 use mathlib.Core.List.{List, [], _∷_, _++_, map}
-use Prim.Native.Nat.{ℕ, _+_}
-use lib.Dec.{eqb}
-use lib.ListN.{replicate}
+use Prim.Native.Nat.{ℕ}
+use lib.ListN.{replicate, set}
 use Rattle.interface.specs.declared.Session.{Session}
-use Rattle.interface.specs.Answers.{found, readRefused}
-use Rattle.sector.specs.Lists.{if_then_else_, all, first, from}
-use Rattle.sector.specs.Contents.{Bytes, File, Table, Record, Header, idleRecord, openRecord, decidedRecord}
-use Rattle.sector.specs.Sectors.{Volume, sector}
+use Rattle.interface.specs.Answers.{newSession, Answer, done, crashed, refused, found, readRefused}
+use Rattle.sector.specs.Lists.{all, first}
+use Rattle.sector.specs.Contents.{Bytes, idleRecord, openRecord}
+use Rattle.sector.specs.Sectors.{Volume, sector, storeAt, padded}
+use Rattle.sector.specs.Encoding.{fileBytes, encodeTable, entryBytes, encodeRecord, encodeHeader}
+use Rattle.sector.specs.Decoding.{decodeFiles, decodeTable, decodeEntries, decodeRecord, decodeHeader}
 use Rattle.volume.specs.Places.{sectorAfter}
-use Rattle.volume.specs.Views.{View, noHeader}
+use Rattle.volume.specs.Volumes.{tableOf, recordIn, headerIn, view}
+use Rattle.volume.specs.Stores.{Store, stored, allStores}
 use Rattle.volume.specs.Lawful.{lawful}
+use Rattle.volume.specs.Sound.{encoded, canonical, sound}
+use Rattle.volume.specs.Format.{repeated, newFiles, newVolume}
 use Rattle.rules.specs.Sessions.{markFits, sessionFits}
-use Rattle.rules.specs.Plans.{Call, begin, write, commit, freeSlots}
-use Rattle.rules.specs.Refusals.{tests}
-use Rattle.rules.specs.Calls.{readBy, partOf}
+use Rattle.rules.specs.Recovery.{heldFiles, recovery}
+use Rattle.rules.specs.Plans.{Call, begin, commit, abort, beginPlan, plan}
+use Rattle.rules.specs.Refusals.{tests, readTests}
+use Rattle.rules.specs.Calls.{After, executed, callBy, call, readBy, read, partOf, readPart}
+use Rattle.rules.proofs.ExampleViews.{active1, active2, active12, entry, rec, header, at}
 
--- The refusal of a call on a sound volume with this view, or 0.
-abbrev refusal : View → Session → Call → ℕ
-refusal a s c = first (tests true a s c)
-
--- Client 1 alone is marked; client 4 alone.
-abbrev active1 : Session
-active1 = record { active = true ∷ false ∷ false ∷ false ∷ [] }
-
-abbrev active4 : Session
-active4 = record { active = false ∷ false ∷ false ∷ true ∷ [] }
-
--- ------------------------------------------------------------------ 11 and 12
--- Client 1 holds both files and has written the first n pages of file 1, "P 70, R 240". File 2 has one page and no other slot.
-abbrev filled : (n : ℕ) → View
-filled n = record {
-  table = record { sectors = 245; clients = 1; files = record { pages = 70; slots = 240 } ∷ record { pages = 1; slots = 1 } ∷ [] };
-  records = λ k. if eqb k 1 then record { state = 1; entries = map (λ p. record { file = 1; page = p; slot = 70 + p }) (from 0 n) } else idleRecord;
-  headers = λ f. if eqb f 1 then record { holder = 1; map = from 0 70 } else if eqb f 2 then record { holder = 1; map = 0 ∷ [] } else noHeader;
-  slots = λ f r. [];
-}
-
-filled-lawful : lawful (filled 62) ≡ true
-unfolding lawful all sectorAfter
-filled-lawful = refl
-
--- What client 1 is refused by when it writes page p of file f there.
-abbrev writing : (n : ℕ) → ℕ → ℕ → ℕ
-writing n f p = refusal (filled n) active1 (write 1 f p (replicate 256 0))
-
--- "write, no entry yet: no real as described", and "C is 62" as well: "The lowest number that applies is given".
-full-and-no-slot : writing 62 2 0 ≡ 11
-unfolding first tests sessionFits markFits all freeSlots
-full-and-no-slot = refl
-
--- Each alone: no slot for the 62nd entry; the 63rd entry.
-no-slot : writing 61 2 0 ≡ 11
-unfolding first tests sessionFits markFits all freeSlots
-no-slot = refl
-
-full : writing 62 1 62 ≡ 12
-unfolding first tests sessionFits markFits all freeSlots
-full = refl
-
--- "62nd entry accepted"; a page that has its entry needs no other.
-last-entry : writing 61 1 61 ≡ 0
-unfolding first tests sessionFits markFits all freeSlots
-last-entry = refl
-
-entry-again : writing 62 1 61 ≡ 0
-unfolding first tests sessionFits markFits all freeSlots
-entry-again = refl
-
--- ------------------------------------------------------------------ 2
--- T clients, client 4's record, and one file that nobody holds.
-abbrev fourth : (T : ℕ) → Record → View
-fourth T r = record {
-  table = record { sectors = 11; clients = T; files = record { pages = 1; slots = 1 } ∷ [] };
-  records = λ k. if eqb k 4 then r else idleRecord;
-  headers = λ f. if eqb f 1 then record { holder = 0; map = 0 ∷ [] } else noHeader;
-  slots = λ f r. [];
-}
-
--- "session marks a kiln above T"
-above-T : refusal (fourth 3 openRecord) active4 (begin 1) ≡ 2
-unfolding first tests sessionFits markFits all
-above-T = refl
-
--- "one whose record isn't open": idle, and decided.
-fourth-idle : refusal (fourth 4 idleRecord) active4 (begin 1) ≡ 2
-unfolding first tests sessionFits markFits all
-fourth-idle = refl
-
-fourth-decided : refusal (fourth 4 (decidedRecord openRecord)) active4 (begin 1) ≡ 2
-unfolding first tests sessionFits markFits all
-fourth-decided = refl
-
--- "T, the kilns, 1 to 4": client 4 is one, and a call of its own or another's is accepted.
-fourth-open : refusal (fourth 4 openRecord) active4 (begin 1) ≡ 0
-unfolding first tests sessionFits markFits all
-fourth-open = refl
-
-fourth-commits : refusal (fourth 4 openRecord) active4 (commit 4) ≡ 0
-unfolding first tests sessionFits markFits all
-fourth-commits = refl
-
--- ------------------------------------------------------------------ read
--- "the sector that (f, p) has in record k, else by the map": headers are in sectors 2 and 243.
-read-entry : readBy 0 (filled 62) 1 1 61 ≡ found 134
-unfolding sectorAfter
-read-entry = refl
-
-read-map : readBy 0 (filled 62) 1 1 62 ≡ found 65
-unfolding sectorAfter
-read-map = refl
-
-read-second : readBy 0 (filled 62) 1 2 0 ≡ found 244
-unfolding sectorAfter
-read-second = refl
-
--- Three sectors.
+-- The bytes of one sector.
 abbrev page : ℕ → Bytes
 page x = replicate 256 x
 
-abbrev three : Volume
-three = page 1 ++ (page 2 ++ page 3)
+-- ------------------------------------------------------------------ budgets and refusals
+-- Two sectors, and two stores.
+abbrev blank : Volume
+blank = page 0 ++ page 0
 
--- "hands back that part of the lent array itself, 256 bytes, or an empty part on a refusal"
-part-found : partOf three (found 1) ≡ page 2
+abbrev two : List Store
+two = record { target = 0; bytes = page 1 } ∷ record { target = 1; bytes = page 2 } ∷ []
+
+abbrev ends : Answer → Session → Volume → After
+ends x s v = record { answer = x; session = s; volume = v }
+
+-- "makes exactly the first so many, answers cut with the number of stores made, and hands back a new session. Otherwise it
+-- answers done with that number": allowances 0 to 3 for two stores, and 0 for none.
+budgets : map (λ n. executed blank active12 (commit 1) n two) (0 ∷ 1 ∷ 2 ∷ 3 ∷ []) ++ (executed blank active12 (commit 1) 0 [] ∷ [])
+    ≡ ends (crashed 0) newSession blank
+    ∷ ends (crashed 1) newSession (page 1 ++ page 0)
+    ∷ ends (done 2) active2 (page 1 ++ page 2)
+    ∷ ends (done 2) active2 (page 1 ++ page 2)
+    ∷ ends (done 0) active2 blank
+    ∷ []
+unfolding stored storeAt
+budgets = refl
+
+-- "A refusal comes before any store, leaves every byte and hands back the session given."
+refused-as-given : (v : Volume) (s : Session) (c : Call) (budget : ℕ) → callBy 5 v s c budget ≡ ends (refused 5) s v
+refused-as-given v s c budget = refl
+
+-- ------------------------------------------------------------------ read
+-- A read's sector, the headers being in sectors 5 and 12: by the record of that client, else by the map; or its refusal.
+sectors-read : readBy 0 (at 1) 1 1 1 ∷ readBy 0 (at 1) 3 1 1 ∷ readBy 0 (at 1) 1 1 0
+    ∷ readBy 0 (at 1) 1 2 0 ∷ readBy 0 (at 1) 3 2 0
+    ∷ readBy 8 (at 1) 1 1 1 ∷ []
+    ≡ found 10 ∷ found 11 ∷ found 7 ∷ found 15 ∷ found 13 ∷ readRefused 8 ∷ []
+unfolding sectorAfter
+sectors-read = refl
+
+-- "hands back that part of the lent array itself, 256 bytes, or an empty part on a refusal": the second of three sectors.
+parts : map (partOf (page 1 ++ (page 2 ++ page 3))) (found 1 ∷ readRefused 1 ∷ []) ≡ page 2 ∷ [] ∷ []
 unfolding sector
-part-found = refl
+parts = refl
 
-part-refused : partOf three (readRefused 5) ≡ []
-part-refused = refl
+-- ------------------------------------------------------------------ on the bytes of a volume
+-- One client, which has begun and holds the one file, of two pages in three slots: page 0 is in slot 2 by its record.
+abbrev tiny : Volume
+tiny = stored (newVolume (record { sectors = 6; clients = 1; files = record { pages = 2; slots = 3 } ∷ [] }))
+    (record { target = 1; bytes = encodeRecord (rec 1 (entry 1 0 2 ∷ [])) }
+    ∷ record { target = 2; bytes = encodeHeader (record { pages = 2; slots = 3 }) (header 1 (0 ∷ 1 ∷ [])) }
+    ∷ record { target = 3; bytes = page 3 }
+    ∷ record { target = 4; bytes = page 4 }
+    ∷ record { target = 5; bytes = page 5 }
+    ∷ [])
+
+-- Pages 0 and 1; no page 2; a new session, whose read is refused; an array that isn't sound.
+parts-read : map (readPart tiny active1 1 1) (0 ∷ 1 ∷ 2 ∷ [])
+    ++ (readPart tiny newSession 1 1 0 ∷ readPart (set tiny 0 0) active1 1 1 0 ∷ [])
+    ≡ page 5 ∷ page 4 ∷ [] ∷ [] ∷ [] ∷ []
+unfolding read readTests first sessionFits markFits sound lawful canonical encoded all view tableOf recordIn headerIn decodeTable decodeFiles decodeRecord decodeEntries decodeHeader sector stored storeAt newVolume newFiles repeated sectorAfter encodeTable fileBytes encodeRecord entryBytes encodeHeader padded
+parts-read = refl
+
+-- With holder 0, and with an idle record as well.
+abbrev half : Volume
+half = storeAt tiny 2 (encodeHeader (record { pages = 2; slots = 3 }) (header 0 (0 ∷ 1 ∷ [])))
+
+abbrev freed : Volume
+freed = storeAt half 1 (encodeRecord idleRecord)
+
+-- The call tests the array that it is given, and stores into it within its budget: abort frees the file and idles the record.
+called : map (call tiny active1 (abort 1)) (2 ∷ 1 ∷ [])
+    ++ (call tiny newSession (abort 1) 2 ∷ call (set tiny 0 0) active1 (abort 1) 2 ∷ [])
+    ≡ ends (done 2) newSession freed
+    ∷ ends (crashed 1) newSession half
+    ∷ ends (refused 5) newSession tiny
+    ∷ ends (refused 1) active1 (set tiny 0 0)
+    ∷ []
+unfolding call tests plan recovery heldFiles allStores first sessionFits markFits sound lawful canonical encoded all view tableOf recordIn headerIn decodeTable decodeFiles decodeRecord decodeEntries decodeHeader sector stored storeAt newVolume newFiles repeated sectorAfter encodeTable fileBytes encodeRecord entryBytes encodeHeader padded
+called = refl
+
+-- The stores are those for the session given: client 1, marked, isn't recovered first.
+session-counts : callBy 0 tiny active1 (begin 1) 1 ≡ ends (done 1) active1 (storeAt tiny 1 (encodeRecord openRecord))
+unfolding plan beginPlan allStores view tableOf recordIn headerIn decodeTable decodeFiles decodeRecord decodeEntries decodeHeader sector stored storeAt newVolume newFiles repeated sectorAfter encodeTable fileBytes encodeRecord entryBytes encodeHeader padded
+session-counts = refl
