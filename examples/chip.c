@@ -1,21 +1,21 @@
-// A chip behind commands. The library works on a copy in memory, and budgets make its stores one at a time: each is
-// written to the chip as a whole before the next one is made, in whatever order the compiled calls write their bytes.
+// A chip that is written by commands. The library works on a copy in memory, and budgets make its stores one at a time:
+// each is written to the chip as a whole before the next one is made, in whatever order the compiled code writes bytes.
 #include <stdio.h>
 #include <stdlib.h>
 #include <string.h>
 
 #include "volume.h"
 
-enum { SECTORS = 11, LENGTH = 256 * SECTORS };
+enum { SECTORS = 11, LENGTH = VOL_SECTOR_SIZE * SECTORS };
 
-// In a controller this is the chip, and memcpy to a sector of it is the command that writes a sector.
+// In a controller this is the chip, and the memcpy to one of its sectors is the command that writes a sector.
 static uint8_t chip[LENGTH];
-// The copy, and the copy before the call. Both are as the chip is when no call is made.
+// The working copy, and the copy kept from before the call. Between calls both are the same as the chip.
 static uint8_t work[LENGTH], start[LENGTH];
 static uint8_t session;
 
 static const uint8_t shape[] = {2, 3, 1, 3};
-static const uint8_t page[256] = {1, 2, 3};
+static const uint8_t page[VOL_SECTOR_SIZE] = {1, 2, 3};
 
 static uint64_t begin(uint8_t budget) {
     return vol_begin(work, LENGTH, session, 1, budget);
@@ -41,20 +41,21 @@ static uint64_t commit(uint8_t budget) {
     return vol_commit(work, LENGTH, session, 1, budget);
 }
 
-// Writes the sector in which the chip differs from the copy. There is one at most.
+// Writes the sector in which the chip differs from the working copy. There is at most one.
 static void write_to_chip(void) {
     int written = 0;
     for (size_t s = 0; s < SECTORS; s++) {
-        if (memcmp(chip + 256 * s, work + 256 * s, 256) == 0) continue;
-        memcpy(chip + 256 * s, work + 256 * s, 256);
+        size_t at = VOL_SECTOR_SIZE * s;
+        if (memcmp(chip + at, work + at, VOL_SECTOR_SIZE) == 0) continue;
+        memcpy(chip + at, work + at, VOL_SECTOR_SIZE);
         printf(" %zu", s);
         written++;
     }
     if (written > 1) exit(1);
 }
 
-// With budget n the copy is as after the first n stores of the call, so the chip is one store behind it. The supply may
-// fail at any moment: the chip then has the first stores of the call, and the next start gives session 0.
+// With budget n the working copy is as after the first n stores of the call, so the chip is one store behind it. The
+// supply may fail at any moment: the chip then has the first stores of the call, and the next start gives session 0.
 static void store_by_store(const char *name, uint64_t (*call)(uint8_t budget)) {
     uint64_t reply;
     uint8_t budget = 0;
@@ -78,6 +79,7 @@ int main(void) {
     store_by_store("write 1", write_1);
     store_by_store("write 2", write_2);
     store_by_store("commit", commit);
+    // The transaction is over: VOL_NOT_ACTIVE.
     store_by_store("commit", commit);
     return memcmp(chip, work, LENGTH) != 0;
 }

@@ -6,25 +6,26 @@
 #include "volume.h"
 
 enum { CLIENT = 1, CARD = 1, FLASK = 2, PAGE = 0 };
-// Begin 1, two opens 2, two writes 4, commit 4: the whole loading, and its stores up to the one that decides.
+// The stores of a whole load (begin 1, two opens 2, two writes 4, commit 4), and how many of them up to the one that
+// decides.
 enum { WHOLE = 11, DECIDING = 8 };
 
 // One client; two files of one page with two sectors each: 8 sectors. A controller lends its chip in place of this
-// array, if it keeps the order of the stores (docs/MANUAL.md).
-static uint8_t chip[8 * 256];
+// array, if it keeps the order of the stores (docs/STORE_ORDER.md).
+static uint8_t chip[8 * VOL_SECTOR_SIZE];
 static const uint8_t shape[] = {1, 2, 1, 2};
 
 // All that a controller keeps between calls, and loses when the supply fails.
 static uint8_t session;
 
-// The simulation: the stores that the supply still lasts for.
+// The simulation: how many more stores the supply lasts for.
 static unsigned supply;
 
 static uint8_t budget(void) {
     return (uint8_t)(supply < 255 ? supply : 255);
 }
 
-// Takes a reply; answers whether the call was done. A refusal is a mistake in this program.
+// Takes in a reply; answers whether the call was done. Here every refusal is a mistake in the program.
 static int done(uint64_t reply) {
     if (VOL_KIND(reply) == VOL_REFUSED) {
         printf("refused %u\n", VOL_NUMBER(reply));
@@ -36,7 +37,7 @@ static int done(uint64_t reply) {
 }
 
 static int write_number(uint8_t file, uint8_t number) {
-    uint8_t page[256] = {0};
+    uint8_t page[VOL_SECTOR_SIZE] = {0};
     page[0] = number;
     return done(vol_write(chip, sizeof chip, session, CLIENT, file, PAGE, page, sizeof page, budget()));
 }
@@ -44,7 +45,7 @@ static int write_number(uint8_t file, uint8_t number) {
 static unsigned read_number(uint8_t file) {
     uint64_t reply = vol_read(chip, sizeof chip, session, CLIENT, file, PAGE);
     if (VOL_KIND(reply) != VOL_SECTOR) done(reply);
-    return chip[256 * VOL_NUMBER(reply)];
+    return chip[VOL_SECTOR_SIZE * VOL_NUMBER(reply)];
 }
 
 // Starts a transaction with both files. If the supply failed in the last one, begin recovers it.
@@ -54,7 +55,7 @@ static int take_files(void) {
            done(vol_open(chip, sizeof chip, session, CLIENT, FLASK, budget()));
 }
 
-// Answers 0 if the supply failed on the way; then the next call is one after a start.
+// Answers 0 if the supply failed on the way; then a start comes next.
 static int load(uint8_t number) {
     return take_files() && write_number(CARD, number) && write_number(FLASK, number) &&
            done(vol_commit(chip, sizeof chip, session, CLIENT, budget()));
@@ -84,7 +85,7 @@ static int check(void) {
     return done(vol_abort(chip, sizeof chip, session, CLIENT, budget())) && card == flask;
 }
 
-// Loads a card while the supply lasts for so many stores, and starts again. Answers whether the check held.
+// Loads a card while the supply lasts for this many stores, and starts again. Answers whether the check passed.
 static int round_of(uint8_t number, unsigned stores) {
     start();
     supply = stores;

@@ -2,12 +2,10 @@
 -- it makes; and that after them the bytes written are the page's decided content.
 -- The views are written out, each as the one before with the updates of a call. A test asks for what the view shows; that
 -- the session fits is supposed here.
-use mathlib.Core.Path.{_≡_, refl, ap}
-use mathlib.Core.Bool.{Bool, true, false, not, _&&_, false≢true}
+use mathlib.Core.Path.{_≡_, refl}
+use mathlib.Core.Bool.{true, false, not, _&&_}
 use mathlib.Core.List.{List, [], _∷_}
-use mathlib.Core.Logic.{_≢_}
-use Prim.Native.Nat.{ℕ, zero, suc, _+_, _≤_, _<_}
-use native.Mathlib.Nat.{not-suc-le-zero}
+use Prim.Native.Nat.{ℕ, _≤_, _<_}
 use native.Mathlib.Omega.{arith}
 use borrow.Author.Tests.{eq-eqb, ne-eqb, lt-ltb}
 use lib.Dec.{eqb, ltb}
@@ -15,12 +13,12 @@ use lib.ListN.{length}
 use lib.Seq.{getD-set-same}
 use Rattle.interface.specs.declared.Session.{Session}
 use Rattle.interface.specs.Answers.{newSession}
-use Rattle.sector.specs.Lists.{first, any, filter, member, from}
+use Rattle.lists.specs.Lists.{first, any, member, from}
 use Rattle.sector.specs.Contents.{Bytes, Record, Header, idleRecord, openRecord, decidedRecord, appended}
 use Rattle.sector.specs.Entries.{givesSlot, redone}
-use Rattle.sector.proofs.ListLaws.{no-both, member-from, member-filter}
-use Rattle.sector.proofs.CaseLaws.{by-test, by-equal}
-use Rattle.sector.proofs.SearchLaws.{from-length}
+use Rattle.lists.proofs.ListLaws.{no-both, member-from, member-filter}
+use Rattle.lists.proofs.CaseLaws.{by-test}
+use Rattle.lists.proofs.SearchLaws.{member-some, from-length, from-below, filter-one}
 use Rattle.volume.specs.Places.{isClient, isFile, fileAt, IsClient, IsFile, IsPage}
 use Rattle.volume.specs.Views.{View, Update, setRecord, setHeader, setSlot, changed, changedBy}
 use Rattle.volume.proofs.PlaceLaws.{is-client, is-file}
@@ -30,30 +28,6 @@ use Rattle.rules.specs.Plans.{begin, openFile, write, commit, freeSlots, chosen
 use Rattle.rules.specs.Refusals.{tests}
 use Rattle.rules.specs.Content.{decidedContent}
 use Rattle.rules.proofs.SessionLaws.{new-inactive, set-same}
-
--- ------------------------------------------------------------------ the numbers from a on
-from-below : (n a i : ℕ) → a + n ≤ i → member i (from a n) ≡ false
-from-below zero a i h = refl
-from-below (suc n) a i h = rw (ne-eqb i a (omega arith)) (from-below n (suc a) i (omega arith))
-
--- A list with a member isn't empty.
-member-some : (i : ℕ) (xs : List ℕ) → member i xs ≡ true → eqb (length xs) 0 ≡ false
-member-some i [] e = absurd (false≢true e)
-member-some i (x ∷ xs) e = ne-eqb (length (x ∷ xs)) 0 (omega arith)
-
--- A test that holds at none of them, or at one.
-filter-none : (t : ℕ → Bool) (n a : ℕ) → ((i : ℕ) → a ≤ i → i < a + n → t i ≡ false) → filter t (from a n) ≡ []
-filter-none t zero a h = refl
-filter-none t (suc n) a h =
-    rw (h a (omega arith) (omega arith)) (filter-none t n (suc a) (λ i lo hi. h i (omega arith) (omega arith)))
-
-filter-one : (t : ℕ → Bool) (n a j : ℕ) → a ≤ j → j < a + n → t j ≡ true
-    → ((i : ℕ) → a ≤ i → i < a + n → i ≢ j → t i ≡ false) → filter t (from a n) ≡ j ∷ []
-filter-one t zero a j lo hi e h = absurd (not-suc-le-zero {n = 0} (omega arith))
-filter-one t (suc n) a j lo hi e h = by-equal a j
-    (λ q. rw (q, e) (ap (λ (l : List ℕ). j ∷ l) (filter-none t n (suc j) (λ i l u. h i (omega arith) (omega arith) (omega arith)))))
-    (λ q. rw (h a (omega arith) (omega arith) q)
-    (filter-one t n (suc a) j (omega arith) (omega arith) e (λ i l u. h i (omega arith) (omega arith))))
 
 -- ------------------------------------------------------------------ the views
 -- What a fresh view shows of client k and of page p of file f, which has a slot to spare.
@@ -139,13 +113,11 @@ module _ {a : View} {k f p : ℕ} (h : Fresh a k f p) where
   -- The map has the slots below the number of pages, so the slot of that number is free.
   some-free : eqb (length (freeSlots (opened a k f) k f)) 0 ≡ false
   unfolding freeSlots
-  some-free = member-some pages (freeSlots (opened a k f) k f)
-      (by-test (member pages (freeSlots (opened a k f) k f)) (λ e. e)
+  some-free =
+      let spare : (not (member pages (opened a k f .headers f .map)) && not (any (givesSlot f pages) (opened a k f .records k .entries)))
+      ≡ true = rw (eq-eqb f f refl, eq-eqb k k refl, h .map, from-below pages 0 pages (omega arith)) in
+      member-some pages (freeSlots (opened a k f) k f) (by-test (member pages (freeSlots (opened a k f) k f)) (λ e. e)
       (λ e. no-both _ spare (member-filter _ pages (from 0 slots) (member-from slots 0 pages (omega arith) (omega arith)) e)))
-    where
-      spare : (not (member pages (opened a k f .headers f .map)) && not (any (givesSlot f pages) (opened a k f .records k .entries)))
-          ≡ true
-      spare = rw (eq-eqb f f refl, eq-eqb k k refl, h .map, from-below pages 0 pages (omega arith))
 
   pub write-passed : (d : Bytes) → length d ≡ 256 → sessionFits (opened a k f) (oneActive k) ≡ true
       → first (tests true (opened a k f) (oneActive k) (write k f p d)) ≡ 0

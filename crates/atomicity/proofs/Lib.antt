@@ -8,7 +8,7 @@ pub mod StepLaws
 pub mod Theorem
 pub mod TranscriptLaws
 pub mod ReturnLaws
-pub mod NotHollow
+pub mod NonVacuity
 pub mod FreshLaws
 pub mod Progress
 pub mod ModelExamples

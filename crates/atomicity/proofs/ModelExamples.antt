@@ -10,11 +10,12 @@ use lib.ListN.{replicate}
 use Rattle.interface.specs.declared.Session.{Session}
 use Rattle.interface.specs.Answers.{newSession, Answer, done, crashed, refused}
 use Rattle.sector.specs.Contents.{Bytes}
-use Rattle.sector.specs.Sectors.{Volume}
-use Rattle.rules.specs.Plans.{Call, begin, openFile, write, commit, abort}
+use Rattle.volume.specs.Volumes.{Volume}
+use Rattle.rules.specs.Plans.{Call, begin, openFile, write, commit, abort, Query, readPage}
 use Rattle.rules.specs.Calls.{call}
+use Rattle.rules.proofs.ExampleViews.{active1, active2, active3, active4, active12}
 use Rattle.atomicity.specs.Model.{Model, newModel, shown, effect, modelCall}
-use Rattle.atomicity.specs.Runs.{Step, calls, reads, Run, started, given, stepped, ranOver}
+use Rattle.atomicity.specs.Runs.{Step, calls, asks, Configuration, started, given, stepped, ranOver}
 
 -- ------------------------------------------------------------------ what a model has
 -- What it has for pages 0 and 1 of file 1, then of file 2.
@@ -64,14 +65,10 @@ D = 0xD4 ∷ []
 abbrev E : Bytes
 E = 0xE5 ∷ []
 
--- Clients 1 and 2 are active.
-abbrev both : Session
-both = record { active = true ∷ true ∷ false ∷ false ∷ [] }
-
 -- The model after writes that were done, given that session: client, file, page, bytes.
 abbrev wrote : Model → List (ℕ × ℕ × ℕ × Bytes) → Model
 wrote m [] = m
-wrote m (x ∷ xs) = wrote (modelCall m both (write (x .0) (x .1) (x .2) (x .3)) (done 2)) xs
+wrote m (x ∷ xs) = wrote (modelCall m active12 (write (x .0) (x .1) (x .2) (x .3)) (done 2)) xs
 
 -- Both clients have written, each to two pages, one of them the same.
 abbrev busy : Model
@@ -95,18 +92,18 @@ write-again = refl
 
 -- Client 1 commits: "the pages on k's slip replace the book's"; the others stay, also when client 2 commits after it.
 abbrev committedBy1 : Model
-committedBy1 = modelCall busy both (commit 1) (done 4)
+committedBy1 = modelCall busy active12 (commit 1) (done 4)
 
-commits-add-up : stateOf (modelCall committedBy1 both (commit 2) (done 4)) ≡ state (C ∷ zeros ∷ D ∷ B ∷ []) nothing nothing
+commits-add-up : stateOf (modelCall committedBy1 active12 (commit 2) (done 4)) ≡ state (C ∷ zeros ∷ D ∷ B ∷ []) nothing nothing
 unfolding modelCall
 commits-add-up = refl
 
 -- "It shows kiln k the page on k's slip, else the book's page."
-shows : map (λ k. shown busy k 1 0) (1 ∷ 2 ∷ 3 ∷ []) ≡ A ∷ C ∷ zeros ∷ []
+shows : map (λ k. shown busy (readPage k 1 0)) (1 ∷ 2 ∷ 3 ∷ []) ≡ A ∷ C ∷ zeros ∷ []
 unfolding modelCall
 shows = refl
 
-shows-after : map (λ k. shown committedBy1 k 1 0) (1 ∷ 2 ∷ 3 ∷ []) ≡ A ∷ C ∷ A ∷ []
+shows-after : map (λ k. shown committedBy1 (readPage k 1 0)) (1 ∷ 2 ∷ 3 ∷ []) ≡ A ∷ C ∷ A ∷ []
 unfolding modelCall
 shows-after = refl
 
@@ -127,7 +124,7 @@ abbrev new : List Bytes
 new = A ∷ zeros ∷ zeros ∷ B ∷ []
 
 -- Done: write adds its page, "Then k's slip is emptied" by commit, and by abort. The other client's pages stay pending.
-done-given-marks : (n : ℕ) → leave both (done n)
+done-given-marks : (n : ℕ) → leave active12 (done n)
     ≡ unchanged
     ∷ unchanged
     ∷ state old (some A ∷ some E ∷ none ∷ some B ∷ []) own2
@@ -138,7 +135,7 @@ unfolding modelCall
 done-given-marks n = refl
 
 -- "Any call cut: after the above, every slip is emptied."
-crashed-at-0 : leave both (crashed 0) ≡ replicate 5 dropped
+crashed-at-0 : leave active12 (crashed 0) ≡ replicate 5 dropped
 unfolding modelCall
 crashed-at-0 = refl
 
@@ -148,13 +145,13 @@ unfolding modelCall
 crashed-before = refl
 
 -- Commit "cut with a count of at least 1: its deciding store, the first, was made".
-crashed-later : map (λ n. leave both (crashed n)) (1 ∷ 2 ∷ 255 ∷ [])
+crashed-later : map (λ n. leave active12 (crashed n)) (1 ∷ 2 ∷ 255 ∷ [])
     ≡ replicate 3 (dropped ∷ dropped ∷ dropped ∷ state new nothing nothing ∷ dropped ∷ [])
 unfolding modelCall
 crashed-later = refl
 
 -- "A refused call does nothing more", and its session has a mark.
-refused-given-marks : (n : ℕ) → leave both (refused n) ≡ replicate 5 unchanged
+refused-given-marks : (n : ℕ) → leave active12 (refused n) ≡ replicate 5 unchanged
 unfolding modelCall
 refused-given-marks n = refl
 
@@ -174,11 +171,8 @@ unfolding modelCall
 refused-given-none n = refl
 
 -- The mark of any client is one, not only the caller's.
-abbrev marked : Bool → Bool → Bool → Bool → Session
-marked a b c d = record { active = a ∷ b ∷ c ∷ d ∷ [] }
-
 any-mark : map (λ s. stateOf (modelCall busy s (begin 1) (done 1)))
-    (marked true false false false ∷ marked false true false false ∷ marked false false true false ∷ marked false false false true ∷ [])
+    (active1 ∷ active2 ∷ active3 ∷ active4 ∷ [])
     ≡ replicate 4 unchanged
 unfolding modelCall
 any-mark = refl
@@ -196,7 +190,7 @@ no-crash : (s : Session) → given false s ≡ s
 no-crash s = refl
 
 -- A call is given that session, and so is the model; the session handed back is the call's.
-call-step : (r : Run) (crash : Bool) (c : Call) (budget : ℕ)
+call-step : (r : Configuration) (crash : Bool) (c : Call) (budget : ℕ)
     → let s = given crash (r .session) in
     let x = call (r .volume) s c budget in
     stepped r (calls crash c budget) ≡ record { volume = x .volume; session = x .session; model = modelCall (r .model) s c (x .answer) }
@@ -204,10 +198,10 @@ unfolding stepped
 call-step r crash c budget = refl
 
 -- "A read changes nothing", nor after a crash.
-read-step : (r : Run) (crash : Bool) (k f p : ℕ) → stepped r (reads crash k f p) ≡ r
+query-step : (r : Configuration) (crash : Bool) (q : Query) → stepped r (asks crash q) ≡ r
 unfolding stepped
-read-step r crash k f p = refl
+query-step r crash q = refl
 
 -- One step after the other.
-two-steps : (r : Run) (x y : Step) → ranOver r (x ∷ y ∷ []) ≡ stepped (stepped r x) y
+two-steps : (r : Configuration) (x y : Step) → ranOver r (x ∷ y ∷ []) ≡ stepped (stepped r x) y
 two-steps r x y = refl

@@ -10,14 +10,14 @@ use native.Mathlib.Omega.{arith}
 use borrow.Author.Tests.{eqb-true, eq-eqb, ne-eqb, not-false}
 use lib.Dec.{eqb}
 use Rattle.interface.specs.declared.Session.{Session}
-use Rattle.sector.specs.Lists.{if_then_else_, every, member}
+use Rattle.lists.specs.Lists.{if_then_else_, every, member}
 use Rattle.sector.specs.Contents.{Table, Header, idleRecord, openRecord}
-use Rattle.sector.proofs.ListLaws.{and-left, and-right, or-right, no-both}
-use Rattle.sector.proofs.CaseLaws.{by-equal, if-test, if-equal}
+use Rattle.lists.proofs.ListLaws.{and-left, and-right, or-right, no-both}
+use Rattle.lists.proofs.CaseLaws.{by-equal, if-test, if-equal}
 use Rattle.volume.specs.Places.{isFile}
 use Rattle.volume.specs.Views.{View, Update, setRecord, setHeader, changed, changedBy}
 use Rattle.volume.proofs.PlaceLaws.{IsFile, file-of}
-use Rattle.volume.proofs.LawfulLaws.{HeaderFacts, Lawful, idle-facts, open-facts, placed-record, placed-header}
+use Rattle.volume.proofs.LawfulLaws.{HeaderFacts, Lawful, idle-fits, open-fits, placed-header}
 use Rattle.volume.proofs.AlongLaws.{Along, last, step, last-record}
 use Rattle.rules.specs.Sessions.{isActive, isOrphaned}
 use Rattle.rules.specs.Recovery.{isDecided, mapAfter, heldFiles, recovery}
@@ -46,30 +46,17 @@ module _ (a₀ : View) (s : Session) (k j : ℕ) (laws : Lawful (a₀ .table) a�
       → ((g : ℕ) → IsFile (a₀ .table) g → a .headers g .holder ≡ j → member g fs ≡ true) → Keeps a₀ s k a
       → KeptAlong a₀ s k a (freeing a₀ fs ++ (setRecord j idleRecord ∷ ys))
   freeing-along [] a held left kept =
-      step kept (placed-record lo hi (idle-facts (a₀ .table))) (after _ idled unnamed)
-    where
-      unnamed : Unnamed (a₀ .table) j a
-      unnamed f i e = false≢true (left f i e)
-
-      idled : Keeps a₀ s k (changed a (setRecord j idleRecord))
-      idled = keep-record kept j idleRecord (idle-facts (a₀ .table)) (λ f i e. absurd (unnamed f i e)) ne
+      let unnamed : Unnamed (a₀ .table) j a = λ f i e. false≢true (left f i e) in
+      step {x = setRecord j idleRecord} kept (lo, hi, idle-fits (a₀ .table))
+      (after _ (keep-record kept j idleRecord (idle-fits (a₀ .table)) (λ f i e. absurd (unnamed f i e)) ne) unnamed)
   freeing-along (f ∷ fs) a held left kept =
+      let this = and-left (isFile (a₀ .table) f && eqb (a₀ .headers f .holder) j) _ held in
+      let file : IsFile (a₀ .table) f = file-of (a₀ .table) f (and-left (isFile (a₀ .table) f) _ this) in
+      let holder : a₀ .headers f .holder ≡ j = eqb-true _ _ (and-right (isFile (a₀ .table) f) _ this) in
       step kept (placed-header (decidedHeader a₀ f 0) (laws .table) file (decided-fits laws f file))
       (freeing-along fs _ (and-right (isFile (a₀ .table) f && eqb (a₀ .headers f .holder) j) _ held) still
-      (keep-header kept f 0 facts refl (λ i o q. ne i o (sym q ∙ holder))))
+      (keep-header kept f 0 (record { map = decided-fits laws f file; holder = λ n. absurd (n refl) }) refl (λ i o q. ne i o (sym q ∙ holder))))
     where
-      this : (isFile (a₀ .table) f && eqb (a₀ .headers f .holder) j) ≡ true
-      this = and-left (isFile (a₀ .table) f && eqb (a₀ .headers f .holder) j) _ held
-
-      file : IsFile (a₀ .table) f
-      file = file-of (a₀ .table) f (and-left (isFile (a₀ .table) f) _ this)
-
-      holder : a₀ .headers f .holder ≡ j
-      holder = eqb-true _ _ (and-right (isFile (a₀ .table) f) _ this)
-
-      facts : HeaderFacts (a₀ .table) (a .records) f (decidedHeader a₀ f 0)
-      facts = record { map = decided-fits laws f file; holder = λ n. absurd (n refl) }
-
       still : (g : ℕ) → IsFile (a₀ .table) g → changed a (setHeader f (decidedHeader a₀ f 0)) .headers g .holder ≡ j
           → member g fs ≡ true
       still g i = if-equal (λ (h : Header). h .holder ≡ j → member g fs ≡ true) g f (decidedHeader a₀ f 0) (a .headers g)
@@ -97,22 +84,15 @@ module _ {a : View} {s : Session} {k : ℕ} where
   unfolding beginPlan
   begin-along w =
       if-test (λ (xs : List Update). KeptAlong a s k a (xs ++ (setRecord k openRecord ∷ []))) (isOrphaned a s k) _ []
-      (λ e. recovery-then a s k k laws (w .low) (w .high) (λ i o. o .other) (setRecord k openRecord ∷ []) opened)
-      (λ e. opened a (keeps-self laws) (idle-unnamed e))
+      (λ e. recovery-then a s k k (w .ready .laws) (w .low) (w .high) (λ i o. o .other) (setRecord k openRecord ∷ []) opened)
+      (λ e. opened a (keeps-self (w .ready .laws)) (λ f i q.
+      let idle : eqb (a .records k .state) 0 ≡ true = not-false _ (rw (w .off) at e) in
+      no-both _ idle (rw q at (w .ready .laws .headers f i .holder (rw q (omega (arith, w .low))) .live))))
     where
-      laws : Lawful (a .table) a
-      laws = w .ready .laws
-
       opened : (b : View) → Keeps a s k b → Unnamed (a .table) k b → KeptAlong a s k b (setRecord k openRecord ∷ [])
       opened b kept unnamed =
-          step kept (placed-record (w .low) (w .high) (open-facts (a .table)))
-          (last (keep-record kept k openRecord (open-facts (a .table)) (λ f i e. absurd (unnamed f i e)) (λ i o. o .other)))
-
-      idle-unnamed : isOrphaned a s k ≡ false → Unnamed (a .table) k a
-      idle-unnamed e f i q =
-          let idle : eqb (a .records k .state) 0 ≡ true = not-false _ (rw (w .off) at e) in
-          let live = laws .headers f i .holder (rw q (omega (arith, w .low))) .live in
-          no-both _ idle (rw q at live)
+          step {x = setRecord k openRecord} kept (w .low, w .high, open-fits (a .table))
+          (last (keep-record kept k openRecord (open-fits (a .table)) (λ f i e. absurd (unnamed f i e)) (λ i o. o .other)))
 
   -- ------------------------------------------------------------------ open
   -- All active clients are left alone, k too: the others are those that aren't 0.
@@ -125,48 +105,35 @@ module _ {a : View} {s : Session} {k : ℕ} where
 
     takes : (b : View) → Keeps a s 0 b → KeptAlong a s 0 b (setHeader f (decidedHeader a f k) ∷ [])
     takes b kept =
-        step kept (placed-header (decidedHeader a f k) (laws .table) (w .file) (decided-fits laws f (w .file)))
-        (last (keep-header kept f k facts undecided unheld))
-      where
-        laws : Lawful (a .table) a
-        laws = w .act .ready .laws
-
-        run : Running a k
-        run = w .act .running
-
-        own : b .records k ≡ a .records k
-        own = kept .others k (record { active = w .act .active; other = omega (arith, w .act .active .low) }) .same
-
-        undecided : (not (eqb k 0) && isDecided b k) ≡ false
-        undecided = rw (own, ne-eqb k 0 (omega (arith, w .act .active .low))) (running-undecided run)
-
-        facts : HeaderFacts (a .table) (b .records) f (decidedHeader a f k)
-        facts = record {
-          map = decided-fits laws f (w .file);
+        let map = decided-fits (w .act .ready .laws) f (w .file) in
+        let run : Running a k = w .act .running in
+        let own = kept .others k (record { active = w .act .active; other = omega (arith, w .act .active .low) }) .same in
+        let undecided : (not (eqb k 0) && isDecided b k) ≡ false
+        = rw (own, ne-eqb k 0 (omega (arith, w .act .active .low))) (running-undecided run) in
+        let facts : HeaderFacts (a .table) (b .records) f (decidedHeader a f k) = record {
+          map = map;
           holder = λ n. record {
             client = run .client;
             live = rw (own, run .state);
             away = rw own (running-foreign run f foreign (λ e. member (e .slot) (decidedMap a f)));
           };
-        }
+        } in
+        step kept (placed-header (decidedHeader a f k) (w .act .ready .laws .table) (w .file) map)
+        (last (keep-header kept f k facts undecided unheld))
 
   pub open-along : {f : ℕ} → MayOpen a s k f → KeptAlong a s 0 a (openPlan a s k f)
   unfolding openPlan
   open-along {f} w =
+      let self : Keeps a s 0 a = keeps-self (w .act .ready .laws) in
       if-equal (KeptAlong a s 0 a) (a .headers f .holder) k [] _ (λ e. last self)
-      (λ n. rw (holder-orphaned a s k f (laws .headers f (w .file)) (w .free) n) (by-equal (a .headers f .holder) 0
+      (λ n. rw (holder-orphaned a s k f (w .act .ready .laws .headers f (w .file)) (w .free) n) (by-equal (a .headers f .holder) 0
       (λ e. rw (eq-eqb _ 0 e, sym (unheld-map a f e)) (takes w n a self))
       (λ z. rw (ne-eqb _ 0 z) (orphaned (a .headers f .holder) refl n (omega arith)))))
     where
-      laws : Lawful (a .table) a
-      laws = w .act .ready .laws
-
-      self : Keeps a s 0 a
-      self = keeps-self laws
-
       orphaned : (h : ℕ) → a .headers f .holder ≡ h → a .headers f .holder ≢ k → 1 ≤ h → KeptAlong a s 0 a
           (recovery (isDecided a h) a h ++ (setHeader f (record { holder = k; map = mapAfter (isDecided a h) a h f }) ∷ []))
       orphaned h e n pos =
+          let laws = w .act .ready .laws in
           let hi : h ≤ a .table .clients = rw e at (laws .headers f (w .file) .holder (omega arith) .client) in
           rw (map-after a h f pos e) (recovery-then a s 0 h laws pos hi (λ i o x. unheld w n i o (e ∙ sym x)) _
           (λ b kept unnamed. takes w n b kept))

@@ -7,74 +7,63 @@ use mathlib.Core.Bool.{true}
 use mathlib.Core.List.{List, [], _∷_}
 use Prim.Native.Nat.{ℕ, _≤_, _<_}
 use native.Mathlib.Omega.{arith}
-use borrow.Author.Tests.{le-leb}
 use lib.ListN.{length}
 use Rattle.interface.specs.declared.Session.{Session}
 use Rattle.interface.specs.Answers.{newSession, done}
-use Rattle.sector.specs.Lists.{first}
+use Rattle.lists.specs.Lists.{first}
 use Rattle.sector.specs.Contents.{Bytes, Table, Header}
-use Rattle.sector.specs.Sectors.{Volume}
 use Rattle.volume.specs.Places.{fileAt, IsClient, IsPage}
 use Rattle.volume.specs.Views.{View, Update, changedBy}
 use Rattle.volume.specs.Volumes.{view}
 use Rattle.volume.specs.Sound.{sound}
-use Rattle.volume.specs.Stores.{stored, allStores}
 use Rattle.volume.specs.Format.{tableFor, newVolume, format}
 use Rattle.volume.proofs.LawfulLaws.{TableFacts}
 use Rattle.volume.proofs.StoreLaws.{stores-length}
-use Rattle.volume.proofs.SoundLaws.{along-view}
-use Rattle.volume.proofs.FormatLaws.{new-table, new-record, new-header, new-sound, FormatFacts, format-done}
+use Rattle.volume.proofs.SoundLaws.{fine-sound}
+use Rattle.volume.proofs.FormatLaws.{new-table, new-record, new-header, new-fine, FormatFacts, format-done}
 use Rattle.rules.specs.Sessions.{sessionFits}
 use Rattle.rules.specs.Plans.{Call, begin, openFile, write, commit, chosen, plan, sessionAfter}
 use Rattle.rules.specs.Refusals.{tests}
 use Rattle.rules.specs.Content.{decidedContent}
-use Rattle.rules.specs.Calls.{After, call}
-use Rattle.atomicity.specs.Runs.{Run, started, called}
-use Rattle.atomicity.specs.NotHollow.{calledAll, answersTo, writing, WritesTakeEffect}
-use Rattle.atomicity.proofs.StepLaws.{lawful-along}
-use Rattle.atomicity.proofs.NotHollow.{Steady, new-steady, call-steady}
+use Rattle.rules.specs.Calls.{After, callStores, call}
+use Rattle.rules.proofs.CallLaws.{passed, call-done}
+use Rattle.atomicity.specs.Runs.{Configuration, started, called}
+use Rattle.atomicity.specs.NonVacuity.{calledAll, answersTo, writing, WritesTakeEffect}
+use Rattle.atomicity.proofs.StepLaws.{left-all}
+use Rattle.atomicity.proofs.NonVacuity.{Steady, new-steady, call-steady}
 use Rattle.atomicity.proofs.FreshLaws.{Fresh, opened, begin-passed, begin-made, open-passed, open-made, write-passed, write-made, commit-passed, commit-made, committed-content}
 
 -- ------------------------------------------------------------------ a call that is done
--- No test holds, and the budget is enough.
-call-done : (v : Volume) (s : Session) (c : Call) (budget : ℕ) → first (tests (sound v) (view v) s c) ≡ 0
-    → let xs = plan (view v) s c in length xs ≤ budget
-    → call v s c budget
-    ≡ record { answer = done (length xs); session = sessionAfter s c; volume = stored v (allStores (view v .table) xs) }
-unfolding call
-call-done v s c budget e le = rw (e, stores-length (view v .table) (plan (view v) s c), le-leb _ _ le)
-
 -- Where a run is: its volume and session are steady, and these are its view and its session.
-record At (r : Run) (a : View) (s : Session) : Type 0 where
+record At (r : Configuration) (a : View) (s : Session) : Type 0 where
   steady : Steady (r .volume) (r .session)
   seen : view (r .volume) ≡ a
   session : r .session ≡ s
 
 -- A call of which no test holds, if the session fits, makes its updates.
-advance : {r : Run} {a : View} {s : Session} (c : Call) (xs : List Update) (budget : ℕ) → At r a s
+advance : {r : Configuration} {a : View} {s : Session} (c : Call) (xs : List Update) (budget : ℕ) → At r a s
     → (sessionFits a s ≡ true → first (tests true a s c) ≡ 0) → plan a s c ≡ xs → length xs ≤ budget
     → (call (r .volume) (r .session) c budget .answer ≡ done (length xs))
     × At (called r (r .session) c budget) (changedBy a xs) (sessionAfter s c)
-advance {r} {a} {s} c xs budget h passed made le =
-    let ends = call-done (r .volume) (r .session) c budget none (rw updates le) in (
-      ap (λ (x : After). x .answer) ends ∙ rw updates,
+advance {r} {a} {s} c xs budget h passes made le =
+    let none : first (tests (sound (r .volume)) (view (r .volume)) (r .session) c) ≡ 0
+    = rw (fine-sound (r .volume) (h .steady .volume), h .seen, h .session) (passes (rw (h .seen, h .session) at (h .steady .session))) in
+    let updates : plan (view (r .volume)) (r .session) c ≡ xs = rw (h .seen, h .session) made in
+    let count : length (callStores (r .volume) (r .session) c) ≡ length xs
+    = stores-length (view (r .volume) .table) (plan (view (r .volume)) (r .session) c) ∙ rw updates in
+    let ends = call-done (r .volume) (r .session) c budget none (rw count le) in (
+      ap (λ (x : After). x .answer) ends ∙ rw count,
       record {
-        steady = call-steady (r .volume) (r .session) (h .steady) c budget;
+        steady = call-steady (h .steady) c budget;
         seen = ap (λ (x : After). view (x .volume)) ends
-            ∙ along-view (r .volume) (h .steady .volume) (lawful-along (r .volume) (r .session) c none) ∙ rw (updates, h .seen);
+            ∙ left-all (r .volume) (r .session) c (passed (r .volume) (r .session) c none) budget (rw count le) ∙ rw (updates, h .seen);
         session = ap (λ (x : After). x .session) ends ∙ rw (h .session);
       },
     )
-  where
-    none : first (tests (sound (r .volume)) (view (r .volume)) (r .session) c) ≡ 0
-    none = rw (h .steady .volume, h .seen, h .session) (passed (rw (h .seen, h .session) at (h .steady .session)))
-
-    updates : plan (view (r .volume)) (r .session) c ≡ xs
-    updates = rw (h .seen, h .session) made
 
 -- ------------------------------------------------------------------ the four calls
 effective : {a : View} {k f p : ℕ} (h : Fresh a k f p) (d : Bytes) → length d ≡ 256
-    → (r : Run) (budget : ℕ) → At r a newSession → 3 ≤ budget
+    → (r : Configuration) (budget : ℕ) → At r a newSession → 3 ≤ budget
     → (answersTo r budget (writing k f p d) ≡ done 1 ∷ done 1 ∷ done 2 ∷ done 3 ∷ [])
     × (decidedContent (view (calledAll r budget (writing k f p d) .volume)) f p ≡ d)
 effective {a} {k} {f} {p} h d size r budget start le =
@@ -103,4 +92,4 @@ writes-take-effect v T l e k f p d budget client page room size le =
     let t : Table = tableFor (length v) T l in
     let x : FormatFacts t (format v T l .volume) = format-done v T l e in
     effective (new-fresh t (x .facts) k f p client page room) d size (started (format v T l .volume)) budget
-    (rw (x .volume) (record { steady = new-steady (newVolume t) (new-sound t (x .facts)); seen = refl; session = refl })) le
+    (rw (x .volume) (record { steady = new-steady (new-fine t (x .facts)); seen = refl; session = refl })) le

@@ -10,26 +10,25 @@ use native.Mathlib.Omega.{arith}
 use lib.ListN.{length, getD, replicate}
 use Rattle.interface.specs.declared.Session.{Session}
 use Rattle.interface.specs.Answers.{newSession}
-use Rattle.sector.specs.Contents.{Table, Header}
-use Rattle.sector.specs.Sectors.{Volume}
-use Rattle.sector.proofs.SearchLaws.{from-at}
+use Rattle.sector.specs.Contents.{Table, Header, newHeader}
+use Rattle.lists.proofs.SearchLaws.{from-at}
 use Rattle.volume.specs.Places.{fileAt}
 use Rattle.volume.specs.Views.{View}
-use Rattle.volume.specs.Volumes.{view}
+use Rattle.volume.specs.Volumes.{Volume, view}
 use Rattle.volume.specs.Format.{tableFor, newVolume, format}
 use Rattle.volume.proofs.PlaceLaws.{IsFile}
 use Rattle.volume.proofs.LawfulLaws.{TableFacts, file-facts}
-use Rattle.volume.proofs.FormatLaws.{newHeader, new-table, new-header, new-slot, FormatFacts, format-done}
+use Rattle.volume.proofs.FormatLaws.{new-table, new-header, new-slot, FormatFacts, format-done}
 use Rattle.rules.specs.Content.{decidedContent}
 use Rattle.rules.proofs.ContentLaws.{unheld-map}
 use Rattle.atomicity.specs.Model.{noPending, Model, newModel}
-use Rattle.atomicity.specs.Runs.{Step, calls, reads, Run, started, given, stepped}
+use Rattle.atomicity.specs.Runs.{Step, calls, asks, Configuration, started, given, stepped}
 use Rattle.atomicity.specs.AllOrNone.{ContentAgrees, Agrees, AllOrNone}
 use Rattle.atomicity.proofs.RelationLaws.{Matches, new-matches}
-use Rattle.atomicity.proofs.StepLaws.{call-matches, call-table, read-matches}
+use Rattle.atomicity.proofs.StepLaws.{call-matches, call-table, query-matches}
 
 -- Volume and session are related to the model, and the volume's table is t.
-pub record Related (t : Table) (r : Run) : Type 0 where
+pub record Related (t : Table) (r : Configuration) : Type 0 where
   pub table : view (r .volume) .table ≡ t
   pub matches : Matches (view (r .volume)) (r .session) (r .model)
 
@@ -38,11 +37,11 @@ given-matches : (a : View) (s : Session) (m : Model) (crash : Bool) → Matches 
 given-matches a s m true h = new-matches a m (h .pages)
 given-matches a s m false h = h
 
-content-agrees : (t : Table) (r : Run) → Related t r → ContentAgrees t r
+content-agrees : (t : Table) (r : Configuration) → Related t r → ContentAgrees t r
 content-agrees t r h f p lo hi lt = h .matches .pages f p (rw (h .table) (record { low = lo; high = hi })) (rw (h .table) lt)
 
 -- From any start that is related.
-pub agrees : (t : Table) (r : Run) (steps : List Step) → Related t r → Agrees t r steps
+pub agrees : (t : Table) (r : Configuration) (steps : List Step) → Related t r → Agrees t r steps
 unfolding stepped
 agrees t r [] h = content-agrees t r h
 agrees t r (calls crash c budget ∷ xs) h =
@@ -53,12 +52,12 @@ agrees t r (calls crash c budget ∷ xs) h =
       matches = call-matches (r .volume) s (r .model) g c budget;
     } in
     (content-agrees t r h, tt, agrees t (stepped r (calls crash c budget)) xs next)
-agrees t r (reads crash k f p ∷ xs) h =
+agrees t r (asks crash q ∷ xs) h =
     let g : Matches (view (r .volume)) (given crash (r .session)) (r .model) = given-matches _ _ _ crash (h .matches) in
-    (content-agrees t r h, read-matches (r .volume) (given crash (r .session)) (r .model) g k f p, agrees t r xs h)
+    (content-agrees t r h, query-matches (r .volume) (given crash (r .session)) (r .model) g q, agrees t r xs h)
 
 -- A volume with the decided content that it has, and a new session.
-abbrev pub startedAs : Volume → Run
+abbrev pub startedAs : Volume → Configuration
 startedAs v = record {
   volume = v;
   session = newSession;
@@ -74,15 +73,11 @@ agrees-from v steps = agrees (view v .table) (startedAs v) steps
 new-content : (t : Table) → TableFacts t → (f p : ℕ) → IsFile t f → p < fileAt t f .pages
     → decidedContent (view (newVolume t)) f p ≡ replicate 256 0
 new-content t facts f p i lt =
+    let a : View = view (newVolume t) in
+    let header : a .headers f ≡ newHeader (fileAt t f) = new-header t facts f i in
     ap (λ (m : List ℕ). a .slots f (getD m p 0)) (unheld-map a f (ap (λ (h : Header). h .holder) header))
     ∙ ap (λ (h : Header). a .slots f (getD (h .map) p 0)) header
     ∙ rw (from-at (fileAt t f .pages) 0 p lt) (new-slot t facts f (0 + p) i (omega (arith, file-facts facts f i .room)))
-  where
-    a : View
-    a = view (newVolume t)
-
-    header : view (newVolume t) .headers f ≡ newHeader (fileAt t f)
-    header = new-header t facts f i
 
 new-related : (t : Table) → TableFacts t → Related t (started (newVolume t))
 new-related t facts = record {

@@ -13,23 +13,23 @@ use borrow.Author.Tests.{eqb-false, eq-eqb, ne-eqb, le-leb, lt-ltb, not-true}
 use lib.Dec.{eqb}
 use lib.ListN.{length, length-append}
 use Rattle.interface.specs.declared.Session.{Session}
-use Rattle.sector.specs.Lists.{member}
+use Rattle.lists.specs.Lists.{member}
 use Rattle.sector.specs.Contents.{Bytes, Entry, decidedRecord, appended}
 use Rattle.sector.specs.Entries.{forFile, forPage, givesSlot}
-use Rattle.sector.proofs.ListLaws.{all-nil, all-cons, find-has}
-use Rattle.sector.proofs.CaseLaws.{by-equal, eqb-sym}
-use Rattle.sector.proofs.SearchLaws.{every-implies, any-none, none-found, every-end, distinct-end, not-member}
+use Rattle.lists.proofs.ListLaws.{all-nil, all-cons, find-has}
+use Rattle.lists.proofs.CaseLaws.{by-equal, eqb-sym}
+use Rattle.lists.proofs.SearchLaws.{every-implies, any-none, none-found, every-end, distinct-end, not-member}
 use Rattle.volume.specs.Places.{fileAt}
 use Rattle.volume.specs.Views.{View, Update, setRecord, setSlot, changed}
-use Rattle.volume.specs.Lawful.{entryFits, apart}
+use Rattle.volume.specs.Lawful.{entryFits, recordFits, apart}
 use Rattle.volume.proofs.PlaceLaws.{IsFile}
 use Rattle.volume.proofs.ViewLaws.{Placed}
-use Rattle.volume.proofs.LawfulLaws.{RecordFacts, Lawful, entry-facts, lawful-record, placed-record}
+use Rattle.volume.proofs.LawfulLaws.{RecordFacts, Lawful, record-fits, entry-facts, decided-fits, lawful-record}
 use Rattle.volume.proofs.AlongLaws.{Along, last, step, along-map}
 use Rattle.rules.specs.Recovery.{isDecided, recovery}
 use Rattle.rules.specs.Plans.{Call, begin, openFile, write, commit, abort, entryFor, chosen, writePlan, plan}
 use Rattle.rules.specs.Content.{decidedMap}
-use Rattle.rules.proofs.AllowedLaws.{MayAct, MayWrite, Allowed, running-undecided, running-foreign}
+use Rattle.rules.proofs.AllowedLaws.{MayAct, MayWrite, Allowed, running-undecided, running-foreign, own-record}
 use Rattle.rules.proofs.ChoiceLaws.{Free, chosen-free}
 use Rattle.rules.proofs.ContentLaws.{held-map}
 use Rattle.rules.proofs.RecoveryLaws.{decidedView, recovery-decided}
@@ -38,9 +38,6 @@ use Rattle.atomicity.proofs.PlanLaws.{KeptAlong, recovery-along, abort-
 
 -- ------------------------------------------------------------------ an active client
 module _ {a : View} {s : Session} {k : ℕ} (w : MayAct a s k) where
-  pub own-record : RecordFacts (a .table) (a .records k)
-  own-record = w .ready .laws .records k (w .active .low) (w .running .client)
-
   -- The files that it holds: their decided map is their map, and none of its slots is given in its record.
   pub own-map : (f : ℕ) → a .headers f .holder ≡ k → decidedMap a f ≡ a .headers f .map
   own-map f e = held-map a f k e (running-undecided (w .running))
@@ -78,28 +75,24 @@ module _ {a : View} {s : Session} {k f p : ℕ} {d : Bytes} (w : MayWrite a s k 
   entryIn r = record { file = f; page = p; slot = r }
 
   module _ (r : ℕ) (new : entryFor a k f p ≡ none) (free : Free a k f r) (few : length (a .records k .entries) < 62) where
-    grown-facts : RecordFacts (a .table) (appended (a .records k) (entryIn r))
-    grown-facts = record {
-      state = facts .state;
-      few = rw length-append (omega arith);
-      fit = every-end (entryFits (a .table)) (a .records k .entries) (entryIn r) (facts .fit) fits;
-      pages = distinct-end (λ e d. forPage (e .file) (e .page) d) (a .records k .entries) (entryIn r) (facts .pages)
-          (every-implies (λ e. not (forPage f p e)) (λ e. not (forPage (e .file) (e .page) (entryIn r)))
-          (λ e h. rw (eqb-sym f (e .file), eqb-sym p (e .page)) h) (a .records k .entries)
-          (none-found (forPage f p) (a .records k .entries) new));
-      slots = distinct-end (λ e d. givesSlot (e .file) (e .slot) d) (a .records k .entries) (entryIn r) (facts .slots)
-          (every-implies (λ e. not (givesSlot f r e)) (λ e. not (givesSlot (e .file) (e .slot) (entryIn r)))
-          (λ e h. rw (eqb-sym f (e .file), eqb-sym r (e .slot)) h) (a .records k .entries)
-          (any-none (givesSlot f r) (a .records k .entries) (free .ungiven)));
-      idle = rw (act .running .state);
-    }
-      where
-        facts : RecordFacts (a .table) (a .records k)
-        facts = own-record act
-
-        fits : entryFits (a .table) (entryIn r) ≡ true
-        fits = all-cons _ (le-leb _ _ (w .place .file .low)) (all-cons _ (le-leb _ _ (w .place .file .high))
-            (all-cons _ (lt-ltb _ _ (w .place .page)) (all-cons _ (lt-ltb _ _ (free .below)) all-nil)))
+    grown-fits : recordFits (a .table) (appended (a .records k) (entryIn r)) ≡ true
+    grown-fits =
+        let fits : entryFits (a .table) (entryIn r) ≡ true = all-cons _ (le-leb _ _ (w .place .file .low)) (all-cons _
+        (le-leb _ _ (w .place .file .high)) (all-cons _ (lt-ltb _ _ (w .place .page)) (all-cons _ (lt-ltb _ _ (free .below)) all-nil))) in
+        record-fits {t = a .table} {r = appended (a .records k) (entryIn r)} (record {
+          state = own-record act .state;
+          few = rw length-append (omega arith);
+          fit = every-end (entryFits (a .table)) (a .records k .entries) (entryIn r) (own-record act .fit) fits;
+          pages = distinct-end (λ e d. forPage (e .file) (e .page) d) (a .records k .entries) (entryIn r) (own-record act .pages)
+              (every-implies (λ e. not (forPage f p e)) (λ e. not (forPage (e .file) (e .page) (entryIn r)))
+              (λ e h. rw (eqb-sym f (e .file), eqb-sym p (e .page)) h) (a .records k .entries)
+              (none-found (forPage f p) (a .records k .entries) new));
+          slots = distinct-end (λ e d. givesSlot (e .file) (e .slot) d) (a .records k .entries) (entryIn r) (own-record act .slots)
+              (every-implies (λ e. not (givesSlot f r e)) (λ e. not (givesSlot (e .file) (e .slot) (entryIn r)))
+              (λ e h. rw (eqb-sym f (e .file), eqb-sym r (e .slot)) h) (a .records k .entries)
+              (any-none (givesSlot f r) (a .records k .entries) (free .ungiven)));
+          idle = rw (act .running .state);
+        })
 
     grown-apart : (g : ℕ) → IsFile (a .table) g → a .headers g .holder ≡ k
         → apart g (a .records k .entries ++ (entryIn r ∷ [])) (a .headers g .map) ≡ true
@@ -107,16 +100,14 @@ module _ {a : View} {s : Session} {k f p : ℕ} {d : Bytes} (w : MayWrite a s k 
         (own-apart act g i e) (by-equal f g (λ q. rw (eq-eqb f g q, ← q, free .unmapped)) (λ n. rw (ne-eqb f g n)))
 
     grown-kept : Keeps a s k (changed (changed a (setSlot f r d)) (setRecord k (appended (a .records k) (entryIn r))))
-    grown-kept = keep-record (slot-kept r (free .unmapped)) k (appended (a .records k) (entryIn r)) grown-facts
+    grown-kept =
+        let undecided : isDecided a k ≡ false = running-undecided (act .running) in
+        keep-record (slot-kept r (free .unmapped)) k (appended (a .records k) (entryIn r)) grown-fits
         (λ g i e. (rw (act .running .state), grown-apart g i e, undecided, undecided)) (λ i o. o .other)
-      where
-        undecided : isDecided a k ≡ false
-        undecided = running-undecided (act .running)
 
     new-along : KeptAlong a s k a (setSlot f r d ∷ setRecord k (appended (a .records k) (entryIn r)) ∷ [])
-    new-along =
-        step self (slot-placed r (free .below))
-        (step (slot-kept r (free .unmapped)) (placed-record (act .active .low) (act .running .client) grown-facts) (last grown-kept))
+    new-along = step self (slot-placed r (free .below)) (step {x = setRecord k (appended (a .records k) (entryIn r))}
+        (slot-kept r (free .unmapped)) (act .active .low, act .running .client, grown-fits) (last grown-kept))
 
   pub new-free : entryFor a k f p ≡ none → Free a k f (chosen a k f p)
   new-free new = chosen-free a k f p (rw new at (w .room))
@@ -131,16 +122,11 @@ module _ {a : View} {s : Session} {k f p : ℕ} {d : Bytes} (w : MayWrite a s k 
 
 -- ------------------------------------------------------------------ commit
 module _ {a : View} {s : Session} {k : ℕ} (w : MayAct a s k) where
-  decided-facts : RecordFacts (a .table) (decidedRecord (a .records k))
-  decided-facts =
-      let x : RecordFacts (a .table) (a .records k) = own-record w in
-      record { state = omega arith; few = x .few; fit = x .fit; pages = x .pages; slots = x .slots; idle = refl }
-
   decided-placed : Placed (a .table) (setRecord k (decidedRecord (a .records k)))
-  decided-placed = placed-record (w .active .low) (w .running .client) decided-facts
+  decided-placed = (w .active .low, w .running .client, decided-fits (own-record w))
 
   decided-laws : Lawful (a .table) (decidedView a k)
-  decided-laws = lawful-record (w .ready .laws) k (decidedRecord (a .records k)) decided-facts
+  decided-laws = lawful-record (w .ready .laws) k (decidedRecord (a .records k)) (decided-fits (own-record w))
       (λ f i e. (refl, own-apart w f i e))
 
   pub commit-along : KeptAlong (decidedView a k) s k (decidedView a k) (recovery true a k)

@@ -1,15 +1,15 @@
 -- The model: "the plain book". It is fed each call's arguments and its answer, and looks at no sector.
 use mathlib.Core.Bool.{Bool, true, false, _&&_}
-use mathlib.Core.Option.{Option, none, some}
+use mathlib.Core.Option.{Option, none, some, Option·getD}
 use Prim.Native.Nat.{ℕ}
 use lib.Dec.{eqb, leb}
 use lib.ListN.{replicate}
 use Rattle.interface.specs.declared.Session.{Session}
 use Rattle.interface.specs.Answers.{Answer, done, crashed, refused}
-use Rattle.sector.specs.Lists.{if_then_else_}
+use Rattle.lists.specs.Lists.{if_then_else_}
 use Rattle.sector.specs.Contents.{Bytes}
 use Rattle.rules.specs.Sessions.{noneActive}
-use Rattle.rules.specs.Plans.{Call, begin, openFile, write, commit, abort}
+use Rattle.rules.specs.Plans.{Call, begin, openFile, write, commit, abort, Query, readPage}
 
 -- A client's pending pages, the paper's "slip": "pages with their bytes, each (file, page) at most once".
 abbrev pub Pending : Type 0
@@ -28,18 +28,13 @@ pub record Model : Type 0 where
 abbrev pub newModel : Model
 newModel = record { pages = λ f p. replicate 256 0; pending = λ k. noPending }
 
--- The pending bytes if there are some, else these.
-abbrev pub orElse : Option Bytes → Bytes → Bytes
-orElse none d = d
-orElse (some x) d = x
-
 -- The pages with those that are pending in their place.
 abbrev pub overlaid : Pending → (ℕ → ℕ → Bytes) → ℕ → ℕ → Bytes
-overlaid l pages f p = orElse (l f p) (pages f p)
+overlaid l pages f p = Option·getD (l f p) (pages f p)
 
 -- A read "shows kiln k the page on k's slip, else the book's page".
-abbrev pub shown : Model → ℕ → ℕ → ℕ → Bytes
-shown m k f p = overlaid (m .pending k) (m .pages) f p
+abbrev pub shown : Model → Query → Bytes
+shown m (readPage k f p) = overlaid (m .pending k) (m .pages) f p
 
 -- "empties every slip"
 abbrev pub emptied : Model → Model

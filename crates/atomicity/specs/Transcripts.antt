@@ -6,21 +6,21 @@ use mathlib.Core.List.{List, [], _∷_}
 use Prim.Native.Nat.{ℕ}
 use lib.ListN.{length}
 use Rattle.interface.specs.declared.Session.{Session}
-use Rattle.interface.specs.Answers.{newSession, Answer, ReadAnswer, found, readRefused, formatDone}
+use Rattle.interface.specs.Answers.{newSession, Answer, QueryAnswer, found, queryRefused, formatDone}
 use Rattle.sector.specs.Contents.{Bytes, Table}
-use Rattle.sector.specs.Sectors.{Volume}
+use Rattle.volume.specs.Volumes.{Volume}
 use Rattle.volume.specs.Format.{tableFor, format}
-use Rattle.rules.specs.Calls.{call, read, partOf, readPart}
+use Rattle.rules.specs.Calls.{call, query, partOf, queryPart}
 use Rattle.atomicity.specs.Model.{Model, newModel, shown, modelCall}
-use Rattle.atomicity.specs.Runs.{Step, calls, reads, Run, started, given, stepped, ranOver}
+use Rattle.atomicity.specs.Runs.{Step, calls, asks, Configuration, started, given, stepped, ranOver}
 use Rattle.atomicity.specs.AllOrNone.{PagesAgree}
 
--- The answer to a step: a call's, or a read's.
+-- The answer to a step: a call's, or a question's.
 pub data StepAnswer : Type 0 where
   ofCall : Answer → StepAnswer
-  ofRead : ReadAnswer → StepAnswer
+  ofQuery : QueryAnswer → StepAnswer
 
--- What a step said: its answer, the session that is last handed back after it, and of a read that isn't refused the bytes of the
+-- What a step said: its answer, the session that is last handed back after it, and of a question that isn't refused the bytes of the
 -- sector answered and the part handed back. Else both are empty.
 pub record Event : Type 0 where
   pub answer : StepAnswer
@@ -28,42 +28,42 @@ pub record Event : Type 0 where
   pub bytes : Bytes
   pub part : Bytes
 
--- What a step says. A read leaves the session as it was.
-abbrev pub eventOf : Run → Step → Event
+-- What a step says. A question leaves the session as it was.
+abbrev pub eventOf : Configuration → Step → Event
 eventOf r (calls crash c budget) =
     let x = call (r .volume) (given crash (r .session)) c budget in
     record { answer = ofCall (x .answer); session = x .session; bytes = []; part = [] }
-eventOf r (reads crash k f p) =
+eventOf r (asks crash q) =
     let s = given crash (r .session) in
-    let x = read (r .volume) s k f p in
-    record { answer = ofRead x; session = r .session; bytes = partOf (r .volume) x; part = readPart (r .volume) s k f p }
+    let x = query (r .volume) s q in
+    record { answer = ofQuery x; session = r .session; bytes = partOf (r .volume) x; part = queryPart (r .volume) s q }
 
 -- What the steps say, one after the other.
-abbrev pub eventsOf : Run → List Step → List Event
+abbrev pub eventsOf : Configuration → List Step → List Event
 eventsOf r [] = []
 eventsOf r (x ∷ xs) = eventOf r x ∷ eventsOf (stepped r x) xs
 
 -- The model after a step: "fed each call's arguments, the volume apart, and its answer". A read changes nothing.
 abbrev pub fed : Model → Session → Step → StepAnswer → Model
 fed m s (calls crash c budget) (ofCall x) = modelCall m (given crash s) c x
-fed m s (calls crash c budget) (ofRead x) = m
-fed m s (reads crash k f p) x = m
+fed m s (calls crash c budget) (ofQuery x) = m
+fed m s (asks crash q) x = m
 
 -- A read that isn't refused shows the page in the bytes of the sector answered and in the part handed back.
 abbrev pub ShowsPage : Bytes → StepAnswer → (bytes : Bytes) → (part : Bytes) → Type 0
 ShowsPage d (ofCall x) bytes part = ⊥
-ShowsPage d (ofRead (found n)) bytes part = (bytes ≡ d) × (part ≡ d)
-ShowsPage d (ofRead (readRefused n)) bytes part = Unit {0}
+ShowsPage d (ofQuery (found n)) bytes part = (bytes ≡ d) × (part ≡ d)
+ShowsPage d (ofQuery (queryRefused n)) bytes part = Unit {0}
 
 -- A call answers as a call does.
 abbrev pub AnswersCall : StepAnswer → Type 0
 AnswersCall (ofCall x) = Unit {0}
-AnswersCall (ofRead x) = ⊥
+AnswersCall (ofQuery x) = ⊥
 
--- What is asked of what a step said: of a read, that it shows what the model shows to that client.
+-- What is claimed of what a step said: of a question, that it shows what the model shows to that client.
 abbrev pub EventAgrees : Model → Step → Event → Type 0
 EventAgrees m (calls crash c budget) e = AnswersCall (e .answer)
-EventAgrees m (reads crash k f p) e = ShowsPage (shown m k f p) (e .answer) (e .bytes) (e .part)
+EventAgrees m (asks crash q) e = ShowsPage (shown m q) (e .answer) (e .bytes) (e .part)
 
 -- The steps said this, one thing each, and left this volume: all of it agrees with the model, which starts from m while s is the
 -- session last handed back.

@@ -1,1 +1,3 @@
 pub mod SetLaws
+pub mod LowestLaws
+pub mod WalkLaws

@@ -14,6 +14,7 @@ use lib.Dec.{eqb, ltb}
 use lib.ListN.{length, getD, set, replicate}
 use lib.Pow.{pow-add, pow-pos, pow-lt, shl-shr, shl-exact, high}
 use lib.Seq.{getD-set-same, getD-set-other}
+use Rattle.lists.proofs.ListLaws.{zeros-at}
 use Rattle.byteset.specs.Set.{noBytes, hasBit, hasByte, withByte}
 
 -- ------------------------------------------------------------------ the bits of one word
@@ -81,11 +82,6 @@ mask-is x r e =
     rw e (shl-exact {a = 1} 1 (x % 64) 64 (omega arith) (omega arith) ∙ z)
 
 -- A set whose words are zero has nothing in it.
-zeros-at : (n i : ℕ) → _≡_ {A = ℕ} (getD (replicate n 0) i 0) 0
-zeros-at zero i = refl
-zeros-at (suc n) zero = refl
-zeros-at (suc n) (suc i) = zeros-at n i
-
 pub has-zeros : (n y : ℕ) → hasByte (replicate n 0) y ≡ false
 unfolding hasByte
 has-zeros n y = rw (zeros-at n (y / 64))

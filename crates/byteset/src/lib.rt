@@ -1,11 +1,11 @@
 // A set of bytes in four words of 64 bits: byte x is bit x % 64 of word x / 64. A set of numbers below
 // 1,024 is the same in sixteen words.
-use sector::size;
+use sector::wide;
 ghost use mathlib.Core.Path.{_≡_};
 ghost use mathlib.Core.Bool.{not};
 ghost use Prim.Native.Nat.{_/_, _%_, _^_, _<_};
 ghost use lib.ListN.{length};
-ghost use Rattle.byteset.specs.Set.{hasByte, withByte};
+ghost use Rattle.byteset.specs.Set.{hasBit, hasByte, withByte, LowestFailing};
 
 // The word that has only the bit of number x.
 fn mask(x: usize) -> u64
@@ -20,7 +20,7 @@ pub fn has(seen: &[u64; 4], x: u8) -> bool
     requires { ⌜ length (now seen) ≡ 4 ⌝ }
     ensures { λ r. ⌜ r ≡ hasByte (now (seen .entry)) x ⌝ }
 {
-    let n = size(x);
+    let n = wide(x);
     let i = n / 64;
     seen[i] & mask(n) != 0
 }
@@ -30,19 +30,19 @@ pub fn add(seen: &mut [u64; 4], x: u8)
     requires { ⌜ length (now seen) ≡ 4 ⌝ }
     ensures { λ _. ⌜ (now (seen .exit) ≡ withByte (now (seen .entry)) x) × (length (now (seen .exit)) ≡ 4) ⌝ }
 {
-    let n = size(x);
+    let n = wide(x);
     let i = n / 64;
     let m = mask(n);
     seen[i] = seen[i] | m;
 }
 
-// Puts byte x into the set. The answer is whether it was absent. It is wrong to answer whether it is there afterwards, and wrong
-// to put another byte in with it.
+// Puts byte x into the set. The answer is whether it was absent. Ruled out: an answer whether it is there afterwards;
+// another byte put in with it.
 pub fn insert(seen: &mut [u64; 4], x: u8) -> bool
     requires { ⌜ length (now seen) ≡ 4 ⌝ }
     ensures { λ r. ⌜ (r ≡ not (hasByte (now (seen .entry)) x)) × (now (seen .exit) ≡ withByte (now (seen .entry)) x) × (length (now (seen .exit)) ≡ 4) ⌝ }
 {
-    let n = size(x);
+    let n = wide(x);
     let i = n / 64;
     let m = mask(n);
     let word = seen[i];
@@ -50,7 +50,8 @@ pub fn insert(seen: &mut [u64; 4], x: u8) -> bool
     word & m == 0
 }
 
-// Puts number x into the set. The answer is whether it was absent. It is wrong to let numbers 32 apart share a bit.
+// Puts number x into the set. The answer is whether it was absent. Ruled out: numbers 32 apart that share a bit
+// (`must-fail/numbers_share_a_bit`).
 pub fn insert_number(seen: &mut [u64; 16], x: usize) -> bool
     requires { ⌜ (length (now seen) ≡ 16) × (x < 1024) ⌝ }
     ensures { λ r. ⌜ (r ≡ not (hasByte (now (seen .entry)) x)) × (now (seen .exit) ≡ withByte (now (seen .entry)) x) × (length (now (seen .exit)) ≡ 16) ⌝ }
@@ -60,4 +61,32 @@ pub fn insert_number(seen: &mut [u64; 16], x: usize) -> bool
     let word = seen[i];
     seen[i] = word | m;
     word & m == 0
+}
+
+// How many bits of the word are set below its lowest clear bit: 64 where none is clear.
+fn low_ones(w: u64) -> u8
+    ensures { λ r. ⌜ LowestFailing (hasBit w) 64 r ⌝ }
+{
+    u64::trailing_zeros(!w) as u8
+}
+
+// The lowest byte below n that is not in the set, or n where all are: the lowest clear bit of the first word that has one.
+pub fn lowest_missing(seen: &[u64; 4], n: u8) -> u8
+    requires { ⌜ length (now seen) ≡ 4 ⌝ }
+    ensures { λ r. ⌜ LowestFailing (hasByte (now (seen .entry))) n r ⌝ }
+{
+    let mut i: u8 = 0;
+    while i < 4 {
+        let at = wide(i);
+        let ones = low_ones(seen[at]);
+        if ones < 64 {
+            let r = 64 * i + ones;
+            if r < n {
+                return r;
+            }
+            return n;
+        }
+        i += 1;
+    }
+    n
 }

@@ -4,24 +4,22 @@ use mathlib.Core.Bool.{true, false}
 use Prim.Native.Nat.{ℕ, _≤_}
 use native.Mathlib.Omega.{arith}
 use Rattle.interface.specs.declared.Session.{Session}
-use Rattle.sector.specs.Lists.{first}
-use Rattle.sector.specs.Sectors.{Volume}
+use Rattle.lists.specs.Lists.{first}
 use Rattle.volume.specs.Places.{IsClient, IsFile}
 use Rattle.volume.specs.Lawful.{headerFits}
-use Rattle.volume.specs.Volumes.{view}
+use Rattle.volume.specs.Volumes.{Volume, view}
 use Rattle.volume.specs.Sound.{sound}
-use Rattle.volume.specs.Known.{Known}
-use Rattle.volume.proofs.KnownLaws.{sound-known}
+use Rattle.volume.specs.WellFormed.{WellFormed}
 use Rattle.volume.proofs.ReadLaws.{few-clients}
 use Rattle.rules.specs.Sessions.{isActive}
 use Rattle.rules.specs.Plans.{Call, begin, openFile, commit, abort}
 use Rattle.rules.specs.Refusals.{heldByOther, tests}
-use Rattle.rules.proofs.AllowedLaws.{allowed, allowed-sound}
+use Rattle.rules.proofs.CallLaws.{passed}
 use Rattle.transaction.proofs.TestedLaws.{begin-client, act-client, open-header}
 
--- The volume is known, whatever the call.
-pub call-known : (v : Volume) (s : Session) (c : Call) → 0 ≡ first (tests (sound v) (view v) s c) → Known v
-call-known v s c e = sound-known v (allowed-sound v s c (sym e))
+-- The volume is well formed, whatever the call.
+pub call-formed : (v : Volume) (s : Session) (c : Call) → 0 ≡ first (tests (sound v) (view v) s c) → WellFormed v
+call-formed v s c e = passed v s c (sym e) .fine .formed
 
 -- The tests of commit and of abort are the same.
 pub same-tests : (v : Volume) (s : Session) (k : ℕ) → first (tests (sound v) (view v) s (commit k)) ≡ first (tests (sound v) (view v) s (abort k))
@@ -36,10 +34,10 @@ pub record Begins (v : Volume) (s : Session) (k : ℕ) : Type 0 where
 
 pub begins : (v : Volume) (s : Session) (k : ℕ) → 0 ≡ first (tests (sound v) (view v) s (begin k)) → Begins v s k
 begins v s k e =
-    let w = allowed v s (begin k) (sym e) in
+    let w = passed v s (begin k) (sym e) .allowed in
     record {
       client = begin-client w;
-      few = omega (arith, w .high, few-clients v (call-known v s (begin k) e));
+      few = omega (arith, w .high, few-clients v (call-formed v s (begin k) e));
       off = w .off;
     }
 
@@ -51,7 +49,7 @@ pub record Acts (v : Volume) (k : ℕ) : Type 0 where
 
 pub acts : (v : Volume) (s : Session) (k : ℕ) → 0 ≡ first (tests (sound v) (view v) s (commit k)) → Acts v k
 acts v s k e =
-    let w = allowed v s (commit k) (sym e) in
+    let w = passed v s (commit k) (sym e) .allowed in
     record {
       client = act-client w;
       few = w .active .high;
@@ -63,5 +61,5 @@ pub opens : (v : Volume) (s : Session) (k f : ℕ) → 0 ≡ first (tests (sound
     → IsFile (view v .table) f × (headerFits (view v .records) (view v .table) f (view v .headers f) ≡ true)
     × (heldByOther (view v) s k f ≡ false)
 opens v s k f e =
-    let w = allowed v s (openFile k f) (sym e) in
+    let w = passed v s (openFile k f) (sym e) .allowed in
     (w .file, open-header w, w .free)

@@ -1,4 +1,4 @@
 pub mod AnswerLaws
 pub mod FactLaws
-pub mod WriteLaws
+pub mod WriteFoundLaws
 pub mod PageLaws

@@ -4,8 +4,8 @@ use Prim.Native.Nat.{ℕ}
 use Rattle.interface.specs.declared.Session.{Session}
 use Rattle.interface.specs.declared.Reply.{Reply}
 use Rattle.interface.specs.Answers.{newSession, done, crashed, answerOf}
-use Rattle.sector.specs.Lists.{if_then_else_}
-use Rattle.sector.specs.Sectors.{Volume}
+use Rattle.lists.specs.Lists.{if_then_else_}
+use Rattle.volume.specs.Volumes.{Volume}
 use Rattle.rules.specs.Calls.{After}
 
 -- The reply of a call that left the volume w: its answer, its session, and every byte.

@@ -3,7 +3,7 @@ use interface::Outcome;
 use interface::Refusal;
 use interface::Reply;
 use interface::Session;
-use recovery::Run;
+use stores::Run;
 ghost use mathlib.Core.Path.{_≡_};
 ghost use Prim.Native.Nat.{ℕ};
 ghost use mathlib.Core.List.{List};

@@ -2,12 +2,12 @@
 use mathlib.Core.Bool.{Bool, true, false}
 use Prim.Native.Nat.{ℕ, _+_, _*_}
 use lib.Dec.{ltb}
-use Rattle.interface.specs.Answers.{sessionOf, sessionByte, Answer, done, crashed, refused, ReadAnswer, found, readRefused, FormatAnswer, formatDone, formatRefused}
-use Rattle.sector.specs.Lists.{if_then_else_}
-use Rattle.sector.specs.Sectors.{Volume}
+use Rattle.interface.specs.Answers.{sessionOf, sessionByte, Answer, done, crashed, refused, QueryAnswer, found, queryRefused, FormatAnswer, formatDone, formatRefused}
+use Rattle.lists.specs.Lists.{if_then_else_}
+use Rattle.volume.specs.Volumes.{Volume}
 use Rattle.volume.specs.Sound.{sound}
-use Rattle.rules.specs.Plans.{Call}
-use Rattle.rules.specs.Calls.{After, call, read}
+use Rattle.rules.specs.Plans.{Call, Query}
+use Rattle.rules.specs.Calls.{After, call, query}
 use Rattle.listing.specs.declared.ListOutcome.{ListOutcome}
 
 -- The number that packs these.
@@ -31,14 +31,14 @@ packedAnswer (done n) b = packed 0 b n
 packedAnswer (crashed n) b = packed 1 b n
 packedAnswer (refused n) b = packed 2 b n
 
--- A read's answer. It hands back no session: the byte is 0.
-abbrev pub packedRead : ReadAnswer → ℕ
-packedRead (found n) = packed 3 0 n
-packedRead (readRefused n) = packed 2 0 n
+-- A question's answer. It hands back no session: the byte is 0.
+abbrev pub packedQuery : QueryAnswer → ℕ
+packedQuery (found n) = packed 3 0 n
+packedQuery (queryRefused n) = packed 2 0 n
 
 -- A byte above 15 is no session: refusal 2, or 1 if the volume isn't sound, since the lowest number is given.
-abbrev pub foreignReply : Volume → (session : ℕ) → ℕ
-foreignReply v b = packed 2 b (if sound v then 2 else 1)
+abbrev pub refusedByte : Volume → (session : ℕ) → ℕ
+refusedByte v b = packed 2 b (if sound v then 2 else 1)
 
 -- What a call hands back to C, and the volume that it leaves.
 pub record Packed : Type 0 where
@@ -52,12 +52,12 @@ packedAfter a = record { reply = packedAnswer (a .answer) (sessionByte (a .sessi
 -- A call given a session byte. A byte that is no session comes back as it was given, and every byte of the volume is kept.
 unfoldable pub calledBy : Volume → (session : ℕ) → Call → (budget : ℕ) → Packed
 calledBy v b c budget =
-    if ltb 15 b then record { reply = foreignReply v b; volume = v }
+    if ltb 15 b then record { reply = refusedByte v b; volume = v }
     else packedAfter (call v (sessionOf b) c budget)
 
--- A read given a session byte.
-unfoldable pub readBy : Volume → (session : ℕ) → (client : ℕ) → (file : ℕ) → (page : ℕ) → ℕ
-readBy v b k f p = if ltb 15 b then foreignReply v 0 else packedRead (read v (sessionOf b) k f p)
+-- A question given a session byte.
+unfoldable pub askedBy : Volume → (session : ℕ) → Query → ℕ
+askedBy v b q = if ltb 15 b then refusedByte v 0 else packedQuery (query v (sessionOf b) q)
 
 -- The length of a listing; 0 if none was written.
 abbrev pub listedLength : ListOutcome → ℕ

@@ -1,19 +1,28 @@
-// The volume for C and Rust: `include/volume.h` declares these functions. A slice is a pointer and a count. A reply is one
-// number, kind + 256 * session + 65,536 * number, and a session is a byte, with bit k - 1 for client k.
+// The volume for C and Rust: `include/volume.h` declares these functions. A slice is a pointer and a count. A reply is
+// one number, kind + 256 * session + 65,536 * number, and a session is a byte, with bit k - 1 for client k.
 mod pack;
 
-use crate::pack::foreign;
 use crate::pack::pack;
 use crate::pack::pack_format;
 use crate::pack::pack_list;
-use crate::pack::pack_read;
+use crate::pack::pack_query;
+use crate::pack::refuse_session_byte;
 use interface::session_of;
 ghost use mathlib.Core.Path.{_≡_};
 ghost use Rattle.volume.specs.Sound.{sound};
 ghost use Rattle.volume.specs.Format.{Formatted};
-ghost use Rattle.rules.specs.Plans.{openFile};
+ghost use Rattle.rules.specs.Plans.{openFile, readPage};
 ghost use Rattle.listing.specs.Listed.{listed};
-ghost use Rattle.capi.specs.Packing.{packedFormat, truth, calledBy, readBy, listedLength};
+ghost use Rattle.capi.specs.Packing.{packedFormat, truth, calledBy, askedBy, listedLength};
+
+// Formats the volume.
+#[no_mangle]
+pub extern "C" fn vol_format(volume: &mut [u8], clients: u8, shape: &[u8]) -> u64
+    ensures { λ r. ⌜ r ≡ packedFormat (Rattle.volume.specs.Format.format (now (volume .entry)) clients (now (shape .entry)) .answer) ⌝ }
+    ensures { λ _. ⌜ now (volume .exit) ≡ Rattle.volume.specs.Format.format (now (volume .entry)) clients (now (shape .entry)) .volume ⌝ }
+{
+    pack_format(format::format(volume, clients, shape))
+}
 
 // Whether the volume is sound: 1 or 0.
 #[no_mangle]
@@ -26,46 +35,15 @@ pub extern "C" fn vol_is_sound(volume: &[u8]) -> u64
     0
 }
 
-// Formats the volume.
-#[no_mangle]
-pub extern "C" fn vol_format(volume: &mut [u8], clients: u8, shape: &[u8]) -> u64
-    ensures { λ r. ⌜ r ≡ packedFormat (Rattle.volume.specs.Format.format (now (volume .entry)) clients (now (shape .entry)) .answer) ⌝ }
-    ensures { λ _. ⌜ now (volume .exit) ≡ Rattle.volume.specs.Format.format (now (volume .entry)) clients (now (shape .entry)) .volume ⌝ }
-{
-    pack_format(format::format(volume, clients, shape))
-}
-
 // Starts a transaction of the client.
 #[no_mangle]
 pub extern "C" fn vol_begin(volume: &mut [u8], session: u8, client: u8, budget: u8) -> u64
     ensures { λ r. ⌜ (record { reply = r; volume = now (volume .exit) }) ≡ calledBy (now (volume .entry)) session (Rattle.rules.specs.Plans.begin client) budget ⌝ }
 {
     if 15 < session {
-        return foreign(volume, session);
+        return refuse_session_byte(volume, session);
     }
     pack(calls::begin(volume, session_of(session), client, budget))
-}
-
-// Ends the client's transaction: its pages become the files' content.
-#[no_mangle]
-pub extern "C" fn vol_commit(volume: &mut [u8], session: u8, client: u8, budget: u8) -> u64
-    ensures { λ r. ⌜ (record { reply = r; volume = now (volume .exit) }) ≡ calledBy (now (volume .entry)) session (Rattle.rules.specs.Plans.commit client) budget ⌝ }
-{
-    if 15 < session {
-        return foreign(volume, session);
-    }
-    pack(calls::commit(volume, session_of(session), client, budget))
-}
-
-// Ends the client's transaction and drops its pages.
-#[no_mangle]
-pub extern "C" fn vol_abort(volume: &mut [u8], session: u8, client: u8, budget: u8) -> u64
-    ensures { λ r. ⌜ (record { reply = r; volume = now (volume .exit) }) ≡ calledBy (now (volume .entry)) session (Rattle.rules.specs.Plans.abort client) budget ⌝ }
-{
-    if 15 < session {
-        return foreign(volume, session);
-    }
-    pack(calls::abort(volume, session_of(session), client, budget))
 }
 
 // Gives the file to the client.
@@ -74,7 +52,7 @@ pub extern "C" fn vol_open(volume: &mut [u8], session: u8, client: u8, file: u8,
     ensures { λ r. ⌜ (record { reply = r; volume = now (volume .exit) }) ≡ calledBy (now (volume .entry)) session (openFile client file) budget ⌝ }
 {
     if 15 < session {
-        return foreign(volume, session);
+        return refuse_session_byte(volume, session);
     }
     pack(calls::open(volume, session_of(session), client, file, budget))
 }
@@ -82,12 +60,12 @@ pub extern "C" fn vol_open(volume: &mut [u8], session: u8, client: u8, file: u8,
 // The sector that has the page as the client sees it.
 #[no_mangle]
 pub extern "C" fn vol_read(volume: &[u8], session: u8, client: u8, file: u8, page: u8) -> u64
-    ensures { λ r. ⌜ r ≡ readBy (now (volume .entry)) session client file page ⌝ }
+    ensures { λ r. ⌜ r ≡ askedBy (now (volume .entry)) session (readPage client file page) ⌝ }
 {
     if 15 < session {
-        return foreign(volume, 0);
+        return refuse_session_byte(volume, 0);
     }
-    pack_read(calls::read(volume, session_of(session), client, file, page))
+    pack_query(calls::read(volume, session_of(session), client, file, page))
 }
 
 // Writes the bytes as the page, in the client's transaction.
@@ -104,7 +82,7 @@ pub extern "C" fn vol_write(
     ensures { λ r. ⌜ (record { reply = r; volume = now (volume .exit) }) ≡ calledBy (now (volume .entry)) session (Rattle.rules.specs.Plans.write client file page (now (bytes .entry))) budget ⌝ }
 {
     if 15 < session {
-        return foreign(volume, session);
+        return refuse_session_byte(volume, session);
     }
     pack(calls::write(
         volume,
@@ -115,6 +93,28 @@ pub extern "C" fn vol_write(
         bytes,
         budget,
     ))
+}
+
+// Ends the client's transaction: its pages become the files' content.
+#[no_mangle]
+pub extern "C" fn vol_commit(volume: &mut [u8], session: u8, client: u8, budget: u8) -> u64
+    ensures { λ r. ⌜ (record { reply = r; volume = now (volume .exit) }) ≡ calledBy (now (volume .entry)) session (Rattle.rules.specs.Plans.commit client) budget ⌝ }
+{
+    if 15 < session {
+        return refuse_session_byte(volume, session);
+    }
+    pack(calls::commit(volume, session_of(session), client, budget))
+}
+
+// Ends the client's transaction and drops its pages.
+#[no_mangle]
+pub extern "C" fn vol_abort(volume: &mut [u8], session: u8, client: u8, budget: u8) -> u64
+    ensures { λ r. ⌜ (record { reply = r; volume = now (volume .exit) }) ≡ calledBy (now (volume .entry)) session (Rattle.rules.specs.Plans.abort client) budget ⌝ }
+{
+    if 15 < session {
+        return refuse_session_byte(volume, session);
+    }
+    pack(calls::abort(volume, session_of(session), client, budget))
 }
 
 // Writes the listing of the volume to the front of `out`: its length, or 0 if nothing was written.

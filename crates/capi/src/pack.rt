@@ -1,15 +1,15 @@
 // Replies and sessions as numbers, and back.
 use interface::FormatOutcome;
 use interface::Outcome;
-use interface::ReadOutcome;
+use interface::QueryOutcome;
 use interface::Refusal;
 use interface::Reply;
 use interface::Session;
 use listing::ListOutcome;
 ghost use mathlib.Core.Path.{_≡_};
 ghost use Prim.Native.Nat.{_≤_};
-ghost use Rattle.interface.specs.Answers.{sessionByte, refusalNumber, answerOf, readAnswerOf, formatAnswerOf};
-ghost use Rattle.capi.specs.Packing.{packed, packedFormat, packedAnswer, packedRead, foreignReply, listedLength};
+ghost use Rattle.interface.specs.Answers.{sessionByte, refusalNumber, answerOf, queryAnswerOf, formatAnswerOf};
+ghost use Rattle.capi.specs.Packing.{packed, packedFormat, packedAnswer, packedQuery, refusedByte, listedLength};
 
 // The number of a refusal.
 fn refusal_number(r: Refusal) -> u64
@@ -23,8 +23,8 @@ pub fn pack_format(o: FormatOutcome) -> u64
     ensures { λ r. ⌜ r ≡ packedFormat (formatAnswerOf o) ⌝ }
 {
     match o {
-        FormatOutcome::Done => 0,
-        FormatOutcome::Refused(r) => 2 + 65536 * refusal_number(r),
+        FormatOutcome::Done => join(0, 0, 0),
+        FormatOutcome::Refused(r) => join(2, 0, refusal_number(r)),
     }
 }
 
@@ -57,7 +57,7 @@ fn join(kind: u64, session: u64, number: u64) -> u64
     kind + 256 * session + 65536 * number
 }
 
-// An outcome, beside the byte of the session.
+// An outcome, with the byte of the session.
 fn pack_outcome(o: Outcome, session: u64) -> u64
     requires { ⌜ session ≤ 15 ⌝ }
     ensures { λ r. ⌜ r ≡ packedAnswer (answerOf o) session ⌝ }
@@ -78,13 +78,13 @@ pub fn pack(r: Reply) -> u64
     pack_outcome(o, session_byte(s))
 }
 
-// A read's outcome as one number.
-pub fn pack_read(o: ReadOutcome) -> u64
-    ensures { λ r. ⌜ r ≡ packedRead (readAnswerOf o) ⌝ }
+// A question's outcome as one number.
+pub fn pack_query(o: QueryOutcome) -> u64
+    ensures { λ r. ⌜ r ≡ packedQuery (queryAnswerOf o) ⌝ }
 {
     match o {
-        ReadOutcome::Sector(n) => join(3, 0, wide_sector(n)),
-        ReadOutcome::Refused(r) => join(2, 0, refusal_number(r)),
+        QueryOutcome::Sector(n) => join(3, 0, wide_sector(n)),
+        QueryOutcome::Refused(r) => join(2, 0, refusal_number(r)),
     }
 }
 
@@ -99,9 +99,9 @@ pub fn pack_list(o: ListOutcome) -> u64
     }
 }
 
-// The reply to a byte that is no session.
-pub fn foreign(v: &[u8], session: u8) -> u64
-    ensures { λ r. ⌜ r ≡ foreignReply (now (v .entry)) session ⌝ }
+// The refusal of a byte that is no session.
+pub fn refuse_session_byte(v: &[u8], session: u8) -> u64
+    ensures { λ r. ⌜ r ≡ refusedByte (now (v .entry)) session ⌝ }
 {
     if soundness::is_sound(v) {
         return join(2, wide(session), 2);

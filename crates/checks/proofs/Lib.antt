@@ -1,3 +1,2 @@
 pub mod VerdictLaws
-pub mod SlotLaws
-pub mod WriteLaws
+pub mod WriteVerdictLaws

@@ -1,4 +1,4 @@
-// The tests of each call, lowest number first. None is tested by another call before.
+// The tests of each call, lowest number first. No test relies on another call having made it.
 use crate::Verdict;
 use crate::session::is_active;
 use crate::session::session_fits;
@@ -6,18 +6,18 @@ use interface::Refusal;
 use interface::Session;
 ghost use mathlib.Core.Path.{_≡_};
 ghost use mathlib.Core.Bool.{true};
-ghost use Prim.Native.Nat.{_≤_};
-ghost use Rattle.sector.specs.Lists.{first};
+ghost use Rattle.lists.specs.Lists.{first};
 ghost use Rattle.sector.specs.Contents.{Table};
-ghost use Rattle.volume.specs.Places.{IsFile};
+ghost use Rattle.volume.specs.Places.{isFile, IsFile};
 ghost use Rattle.volume.specs.Views.{View};
 ghost use Rattle.volume.specs.Volumes.{view};
 ghost use Rattle.volume.specs.Sound.{sound};
-ghost use Rattle.rules.specs.Plans.{begin, openFile, commit};
-ghost use Rattle.rules.specs.Refusals.{heldByOther, tests, readTests};
-ghost use Rattle.checks.specs.Verdicts.{numberOf, clientTests, beginTests, activeTests, openTests, pageTests};
+ghost use Rattle.volume.specs.WellFormed.{WellFormed};
+ghost use Rattle.rules.specs.Plans.{begin, openFile, commit, readPage};
+ghost use Rattle.rules.specs.Refusals.{heldByOther, clientTests, fileTests, pageTests, tests, queryTests};
+ghost use Rattle.checks.specs.Verdicts.{numberOf};
 
-// Tests 1 to 3: the volume is sound, as `ok` tells; the session fits it; and client k exists.
+// Tests 1 to 3: the volume is sound, as `ok` says; the session fits it; and client k exists.
 fn check_client(v: &[u8], ok: bool, s: Session, k: u8) -> Verdict
     requires { ⌜ ok ≡ sound (now v) ⌝ }
     ensures { λ r. ⌜ numberOf r ≡ first (clientTests (sound (now (v .entry))) (view (now (v .entry))) s k) ⌝ }
@@ -37,26 +37,15 @@ fn check_client(v: &[u8], ok: bool, s: Session, k: u8) -> Verdict
     Verdict::Accepted
 }
 
-// Test 4: client k has no transaction running.
-fn check_inactive(s: Session, k: u8) -> Verdict
-    requires { ⌜ (1 ≤ k) × (k ≤ 4) ⌝ }
-    ensures { λ r. ⌜ numberOf r ≡ first (beginTests s k) ⌝ }
+// Whether file f exists.
+fn is_file(v: &[u8], f: u8) -> bool
+    requires { ⌜ WellFormed (now v) ⌝ }
+    ensures { λ r. ⌜ r ≡ isFile (view (now (v .entry)) .table) f ⌝ }
 {
-    if is_active(s, k) {
-        return Verdict::Refused(Refusal::AlreadyActive);
+    if f < 1 {
+        return false;
     }
-    Verdict::Accepted
-}
-
-// Test 5: client k has one running.
-fn check_running(s: Session, k: u8) -> Verdict
-    requires { ⌜ (1 ≤ k) × (k ≤ 4) ⌝ }
-    ensures { λ r. ⌜ numberOf r ≡ first (activeTests s k) ⌝ }
-{
-    if is_active(s, k) {
-        return Verdict::Accepted;
-    }
-    Verdict::Refused(Refusal::NotActive)
+    f <= volume::files(v)
 }
 
 // Whether a client other than k that is active holds file f.
@@ -77,12 +66,9 @@ fn held_by_other(v: &[u8], s: Session, k: u8, f: u8) -> bool
 // Tests 6 and 7: file f exists, and no other active client holds it.
 fn check_free(v: &[u8], s: Session, k: u8, f: u8) -> Verdict
     requires { ⌜ sound (now v) ≡ true ⌝ }
-    ensures { λ r. ⌜ numberOf r ≡ first (openTests (view (now (v .entry))) s k f) ⌝ }
+    ensures { λ r. ⌜ numberOf r ≡ first (fileTests (view (now (v .entry))) s k f) ⌝ }
 {
-    if f < 1 {
-        return Verdict::Refused(Refusal::NoFile);
-    }
-    if volume::files(v) < f {
+    if !is_file(v, f) {
         return Verdict::Refused(Refusal::NoFile);
     }
     if held_by_other(v, s, k, f) {
@@ -96,10 +82,7 @@ fn check_page(v: &[u8], k: u8, f: u8, p: u8) -> Verdict
     requires { ⌜ sound (now v) ≡ true ⌝ }
     ensures { λ r. ⌜ numberOf r ≡ first (pageTests (view (now (v .entry))) k f p) ⌝ }
 {
-    if f < 1 {
-        return Verdict::Refused(Refusal::NoFile);
-    }
-    if volume::files(v) < f {
+    if !is_file(v, f) {
         return Verdict::Refused(Refusal::NoFile);
     }
     if volume::holder(v, f) != k {
@@ -118,7 +101,12 @@ pub fn check_begin(v: &[u8], s: Session, k: u8) -> Verdict
     let ok = soundness::is_sound(v);
     match check_client(v, ok, s, k) {
         Verdict::Refused(r) => Verdict::Refused(r),
-        Verdict::Accepted => check_inactive(s, k),
+        Verdict::Accepted => {
+            if is_active(s, k) {
+                return Verdict::Refused(Refusal::AlreadyActive);
+            }
+            Verdict::Accepted
+        }
     }
 }
 
@@ -129,7 +117,12 @@ pub fn check_active(v: &[u8], s: Session, k: u8) -> Verdict
     let ok = soundness::is_sound(v);
     match check_client(v, ok, s, k) {
         Verdict::Refused(r) => Verdict::Refused(r),
-        Verdict::Accepted => check_running(s, k),
+        Verdict::Accepted => {
+            if is_active(s, k) {
+                return Verdict::Accepted;
+            }
+            Verdict::Refused(Refusal::NotActive)
+        }
     }
 }
 
@@ -145,7 +138,7 @@ pub fn check_open(v: &[u8], s: Session, k: u8, f: u8) -> Verdict
 
 // The tests of read.
 pub fn check_read(v: &[u8], s: Session, k: u8, f: u8, p: u8) -> Verdict
-    ensures { λ r. ⌜ numberOf r ≡ first (readTests (sound (now (v .entry))) (view (now (v .entry))) s k f p) ⌝ }
+    ensures { λ r. ⌜ numberOf r ≡ first (queryTests (sound (now (v .entry))) (view (now (v .entry))) s (readPage k f p)) ⌝ }
 {
     match check_active(v, s, k) {
         Verdict::Refused(r) => Verdict::Refused(r),

@@ -12,18 +12,11 @@ pub use session::is_active;
 pub use session::session_fits;
 pub use session::set_active;
 pub use write::check_write;
-pub use write::read_slot;
 
 // What the tests of a call found.
 pub enum Verdict {
     Accepted,
     Refused(Refusal),
-}
-
-// What a search for a slot found.
-pub enum Found {
-    Slot(u8),
-    Nothing,
 }
 
 // What the tests of write found: a refusal, or where the page goes.

@@ -1,14 +1,15 @@
 // A session's marks, and whether they fit the volume: what refusal 2 asks.
 use interface::Session;
+use sector::State;
 ghost use mathlib.Core.Path.{_≡_};
 ghost use mathlib.Core.Bool.{not, _||_};
 ghost use Prim.Native.Nat.{_≤_};
-ghost use Rattle.sector.specs.Lists.{every};
+ghost use Rattle.lists.specs.Lists.{every};
 ghost use Rattle.sector.specs.Contents.{Table, Entry, Record};
 ghost use Rattle.volume.specs.Places.{IsClient};
 ghost use Rattle.volume.specs.Views.{View};
 ghost use Rattle.volume.specs.Volumes.{view};
-ghost use Rattle.volume.specs.Known.{Known};
+ghost use Rattle.volume.specs.WellFormed.{WellFormed};
 ghost use Rattle.rules.specs.Sessions.{isActive, setActive, holds, markFits, sessionFits};
 
 // Whether client k has a transaction running.
@@ -16,7 +17,7 @@ pub fn is_active(s: Session, k: u8) -> bool
     requires { ⌜ (1 ≤ k) × (k ≤ 4) ⌝ }
     ensures { λ r. ⌜ r ≡ isActive s k ⌝ }
 {
-    let at = sector::size(k) - 1;
+    let at = sector::wide(k) - 1;
     s.active[at]
 }
 
@@ -25,17 +26,17 @@ pub fn set_active(mut s: Session, k: u8, on: bool) -> Session
     requires { ⌜ (1 ≤ k) × (k ≤ 4) ⌝ }
     ensures { λ r. ⌜ r ≡ setActive s k on ⌝ }
 {
-    let at = sector::size(k) - 1;
+    let at = sector::wide(k) - 1;
     s.active[at] = on;
     s
 }
 
 // Whether client k holds the file of every entry of its record.
 fn entries_held(v: &[u8], k: u8) -> bool
-    requires { ⌜ Known (now v) × IsClient (view (now v) .table) k ⌝ }
+    requires { ⌜ WellFormed (now v) × IsClient (view (now v) .table) k ⌝ }
     ensures { λ r. ⌜ r ≡ every (λ e. holds (view (now (v .entry))) k (e .file)) (view (now (v .entry)) .records k .entries) ⌝ }
 {
-    let n = sector::size(volume::entry_count(v, k));
+    let n = sector::wide(volume::entry_count(v, k));
     let mut i = 0;
     while i < n {
         let f = volume::entry_file(v, k, i);
@@ -49,13 +50,13 @@ fn entries_held(v: &[u8], k: u8) -> bool
 
 // Whether client k may be marked: it exists, its record is open, and it holds the files of its entries.
 fn mark_fits(v: &[u8], k: u8) -> bool
-    requires { ⌜ Known (now v) × (1 ≤ k) ⌝ }
+    requires { ⌜ WellFormed (now v) × (1 ≤ k) ⌝ }
     ensures { λ r. ⌜ r ≡ markFits (view (now (v .entry))) k ⌝ }
 {
     if volume::clients(v) < k {
         return false;
     }
-    if volume::state(v, k) != 1 {
+    if volume::state(v, k) != State::OPEN {
         return false;
     }
     entries_held(v, k)
@@ -63,7 +64,7 @@ fn mark_fits(v: &[u8], k: u8) -> bool
 
 // Whether client k is not marked, or may be.
 fn client_fits(v: &[u8], s: Session, k: u8) -> bool
-    requires { ⌜ Known (now v) × (1 ≤ k) × (k ≤ 4) ⌝ }
+    requires { ⌜ WellFormed (now v) × (1 ≤ k) × (k ≤ 4) ⌝ }
     ensures { λ r. ⌜ r ≡ (not (isActive s k) || markFits (view (now (v .entry))) k) ⌝ }
 {
     if is_active(s, k) {
@@ -72,10 +73,10 @@ fn client_fits(v: &[u8], s: Session, k: u8) -> bool
     true
 }
 
-// Whether the session fits the volume. It is wrong to accept a mark above the last client, and wrong
-// to look only at the records' states.
+// Whether the session fits the volume. Ruled out: a mark above the last client accepted (`must-fail/skips_client_4`); a
+// test of the records' states alone (`rules/must-fail/stray_entry_accepted`).
 pub fn session_fits(v: &[u8], s: Session) -> bool
-    requires { ⌜ Known (now v) ⌝ }
+    requires { ⌜ WellFormed (now v) ⌝ }
     ensures { λ r. ⌜ r ≡ sessionFits (view (now (v .entry))) s ⌝ }
 {
     let mut k: u8 = 1;

@@ -1,19 +1,19 @@
--- What a call's reply, or a read's answer, says is what the command's step leaves and answers.
+-- What a call's reply, or a question's answer, says is what the command's step leaves and answers.
 use mathlib.Core.Path.{_≡_, refl, ap, _∙_}
 use Prim.Native.Nat.{ℕ}
 use mathlib.Core.Bool.{Bool}
 use Rattle.interface.specs.declared.Session.{Session}
 use Rattle.interface.specs.declared.Reply.{Reply}
-use Rattle.interface.specs.declared.ReadOutcome.{ReadOutcome}
-use Rattle.interface.specs.Answers.{answerOf, readAnswerOf}
+use Rattle.interface.specs.declared.QueryOutcome.{QueryOutcome}
+use Rattle.interface.specs.Answers.{answerOf, queryAnswerOf}
 use Rattle.sector.specs.Contents.{Bytes}
-use Rattle.sector.specs.Sectors.{Volume}
-use Rattle.rules.specs.Plans.{Call}
-use Rattle.rules.specs.Calls.{After, call, read}
+use Rattle.volume.specs.Volumes.{Volume}
+use Rattle.rules.specs.Plans.{Call, Query}
+use Rattle.rules.specs.Calls.{After, call, query}
 use Rattle.calls.specs.Replies.{replied}
 use Rattle.atomicity.specs.Model.{Model}
-use Rattle.atomicity.specs.Runs.{Step, calls, reads, given, stepped}
-use Rattle.atomicity.specs.Transcripts.{ofCall, ofRead}
+use Rattle.atomicity.specs.Runs.{Step, calls, asks, given, stepped}
+use Rattle.atomicity.specs.Transcripts.{ofCall, ofQuery}
 use Rattle.commands.specs.declared.Action.{Action}
 use Rattle.commands.specs.declared.Command.{Command}
 use Rattle.commands.specs.declared.Told.{Told}
@@ -40,10 +40,10 @@ module _ (v w : Volume) (s g : Session) (m : Model) (p : Performed) where
         answer = t .0 ∙ ap (λ (y : After). ofCall (y .answer)) k;
       })
 
--- A read leaves what it finds.
-pub performed-read : (v : Volume) (s g : Session) (m : Model) (crash : Bool) (k f p : ℕ) (x : Step) (o : ReadOutcome)
-    → x ≡ reads crash k f p → g ≡ given crash s → readAnswerOf o ≡ read v g k f p
-    → IsPerformed (runOf v s m) x (record { told = Told.Read o; session = s }) v
+-- A question leaves what it finds.
+pub performed-query : (v : Volume) (s g : Session) (m : Model) (crash : Bool) (q : Query) (x : Step) (o : QueryOutcome)
+    → x ≡ asks crash q → g ≡ given crash s → queryAnswerOf o ≡ query v g q
+    → IsPerformed (runOf v s m) x (record { told = Told.Query o; session = s }) v
 unfolding stepped
-performed-read v s g m crash k f p x o d e h =
-    rw d (record { volume = refl; session = refl; answer = ap ofRead (rw e at h) })
+performed-query v s g m crash q x o d e h =
+    rw d (record { volume = refl; session = refl; answer = ap ofQuery (rw e at h) })

@@ -1,3 +1,3 @@
 pub mod CommandLaws
 pub mod LineLaws
-pub mod LookLaws
+pub mod InspectLaws

@@ -1,17 +1,21 @@
 -- What a command is among the definitions: the step that it stands for, and what it is to have been performed.
 use mathlib.Core.Path.{_≡_}
 use Rattle.interface.specs.declared.Session.{Session}
-use Rattle.interface.specs.Answers.{answerOf, readAnswerOf}
+use Rattle.interface.specs.Answers.{answerOf, queryAnswerOf}
 use Rattle.sector.specs.Contents.{Bytes}
-use Rattle.sector.specs.Sectors.{Volume}
-use Rattle.rules.specs.Plans.{begin, openFile, write, commit, abort}
+use Rattle.volume.specs.Volumes.{Volume}
+use Rattle.rules.specs.Plans.{begin, openFile, write, commit, abort, Query, readPage}
 use Rattle.atomicity.specs.Model.{Model}
-use Rattle.atomicity.specs.Runs.{Step, calls, reads, Run, stepped}
-use Rattle.atomicity.specs.Transcripts.{StepAnswer, ofCall, ofRead, eventOf}
+use Rattle.atomicity.specs.Runs.{Step, calls, asks, Configuration, stepped}
+use Rattle.atomicity.specs.Transcripts.{StepAnswer, ofCall, ofQuery, eventOf}
 use Rattle.commands.specs.declared.Action.{Action}
 use Rattle.commands.specs.declared.Command.{Command}
 use Rattle.commands.specs.declared.Told.{Told}
 use Rattle.commands.specs.declared.Performed.{Performed}
+
+-- What a command asks, if it is a question.
+abbrev pub queryOf : Command → Query
+queryOf c = readPage (c .client) (c .file) (c .page)
 
 -- The step of a command that is this call.
 abbrev pub stepBy : Action → Command → Bytes → Step
@@ -20,7 +24,7 @@ stepBy Action.Open c d = calls (c .crash) (openFile (c .client) (c .file)) (c .b
 stepBy Action.Write c d = calls (c .crash) (write (c .client) (c .file) (c .page) d) (c .budget)
 stepBy Action.Commit c d = calls (c .crash) (commit (c .client)) (c .budget)
 stepBy Action.Abort c d = calls (c .crash) (abort (c .client)) (c .budget)
-stepBy Action.Read c d = reads (c .crash) (c .client) (c .file) (c .page)
+stepBy Action.Read c d = asks (c .crash) (queryOf c)
 
 -- The step that a command stands for; d is what a write stores.
 unfoldable pub stepOf : Command → Bytes → Step
@@ -29,14 +33,14 @@ stepOf c d = stepBy (c .action) c d
 -- Each case of what was told, as the definitions have it.
 abbrev pub toldOf : Told → StepAnswer
 toldOf (Told.Call o) = ofCall (answerOf o)
-toldOf (Told.Read o) = ofRead (readAnswerOf o)
+toldOf (Told.Query o) = ofQuery (queryAnswerOf o)
 
 -- A run with this volume, session and model.
-abbrev pub runOf : Volume → Session → Model → Run
+abbrev pub runOf : Volume → Session → Model → Configuration
 runOf v s m = record { volume = v; session = s; model = m }
 
 -- The step was performed: it left this volume and session, and answered so.
-pub record IsPerformed (r : Run) (x : Step) (p : Performed) (w : Volume) : Type 0 where
+pub record IsPerformed (r : Configuration) (x : Step) (p : Performed) (w : Volume) : Type 0 where
   pub volume : w ≡ stepped r x .volume
   pub session : p .session ≡ stepped r x .session
   pub answer : toldOf (p .told) ≡ eventOf r x .answer

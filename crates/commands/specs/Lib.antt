@@ -1,3 +1,3 @@
 pub mod Commands
 pub mod Lines
-pub mod Looks
+pub mod Inspect

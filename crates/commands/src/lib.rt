@@ -1,11 +1,12 @@
-// Commands: the calls of scripts with their arguments, whatever a script is written in, and one function that performs them. A
-// step of bytes and a line of text each become a command. Also the lines that look at volume and session, or change them by hand.
+// Commands: the calls of scripts with their arguments, and one function that performs them. A step of a script of bytes
+// and a line of a script of text each become a command. Also the lines that show the volume, or change volume or session by
+// hand.
+pub mod inspect;
 pub mod lines;
-pub mod looks;
 mod performer;
 
 use interface::Outcome;
-use interface::ReadOutcome;
+use interface::QueryOutcome;
 use interface::Session;
 pub use performer::page;
 pub use performer::perform;
@@ -20,8 +21,8 @@ pub enum Action {
     Read,
 }
 
-// A call with its arguments; those that it doesn't take say nothing. `crash`: the supply failed before it, so it is given a new
-// session. What a write stores is lent beside it.
+// A call with its arguments; those that it doesn't take are ignored. `crash`: the supply failed before it, so it is
+// given a new session. What a write stores is lent separately.
 pub struct Command {
     pub action: Action,
     pub crash: bool,
@@ -34,10 +35,10 @@ pub struct Command {
 // What a command answered.
 pub enum Told {
     Call(Outcome),
-    Read(ReadOutcome),
+    Query(QueryOutcome),
 }
 
-// Its answer, and the session last handed back: a read hands back none, so it is the one from before it.
+// Its answer, and the session last handed back: a question hands back none, so it is the one from before it.
 pub struct Performed {
     pub told: Told,
     pub session: Session,

@@ -1,5 +1,6 @@
-// The lines that are calls, as commands, and the line that formats. Each contract says which of the definition's steps the line
-// is. So it is wrong to take a budget left out for 0, and wrong to write the seed again and again.
+// The lines that are calls, as commands, and the line that formats. Each contract says which of the definition's steps
+// the line is. Ruled out: a budget left out taken for anything but 255 (`must-fail/budget_of_254`); data of which every
+// byte is the same (`must-fail/seed_not_counted`).
 use crate::Action;
 use crate::Command;
 use crate::Performed;
@@ -9,9 +10,9 @@ use interface::Session;
 use script::fields::argument;
 use script::fields::arguments;
 use sector::low;
-use sector::size;
+use sector::wide;
 ghost use mathlib.Core.Path.{_≡_};
-ghost use Prim.Native.Nat.{_+_, _%_, _≤_, min};
+ghost use Prim.Native.Nat.{_+_, _≤_};
 ghost use lib.ListN.{length, take};
 ghost use Rattle.volume.specs.Format;
 ghost use Rattle.format.specs.Outcomes.{formatted};
@@ -55,7 +56,7 @@ fn budget_place(a: Action) -> usize
     }
 }
 
-// The command of a line. Arguments that it doesn't take say nothing.
+// The command of a line. Arguments that it doesn't take are ignored.
 pub fn command(a: Action, line: &[u8]) -> Command
     ensures { λ r. ⌜ r ≡ lineCommand a (now (line .entry)) ⌝ }
 {
@@ -77,7 +78,7 @@ fn fill(buf: &mut [u8; 512], seed: u8, n: usize)
 {
     let mut i = 0;
     while i < n {
-        buf[i] = low(size(seed) + i);
+        buf[i] = low(wide(seed) + i);
         i += 1;
     }
 }
@@ -93,8 +94,8 @@ fn data_length(line: &[u8]) -> usize
     512
 }
 
-// `begin K [BUDGET]`, `open K F [BUDGET]`, `write K F P SEED LENGTH [BUDGET]`, `commit K [BUDGET]`, `abort K [BUDGET]`, and of
-// `read K F P` the first call.
+// `begin K [BUDGET]`, `open K F [BUDGET]`, the first call of `read K F P`, `write K F P SEED LENGTH [BUDGET]`,
+// `commit K [BUDGET]`, `abort K [BUDGET]`.
 pub fn perform_line(v: &mut [u8], s: Session, a: Action, line: &[u8]) -> Performed
     ensures { λ r. ⌜ ((m : Model) → IsPerformed (runOf (now (v .entry)) s m) (lineStep a (now (line .entry))) r (now (v .exit))) ⌝ }
 {

@@ -8,21 +8,23 @@ use Prim.Native.Nat.{ℕ, suc, _+_, _*_, _-_, _/_, _≤_, _<_}
 use native.Mathlib.Omega.{arith}
 use borrow.Author.Tests.{leb-true}
 use lib.ListN.{length, drop, replicate, length-append, length-replicate}
-use Rattle.sector.specs.Lists.{every}
-use Rattle.sector.specs.Contents.{Bytes, File, Table, idleRecord}
+use Rattle.lists.specs.Lists.{every}
+use Rattle.sector.specs.Layout.{itemsRoom, pageLimit, entryLimit}
+use Rattle.sector.specs.Contents.{Bytes, File, Table, idleRecord, newHeader}
 use Rattle.sector.specs.Sectors.{storeAt}
 use Rattle.sector.specs.Encoding.{encodeTable, encodeRecord, encodeHeader}
-use Rattle.sector.proofs.ListLaws.{all-at}
+use Rattle.lists.proofs.ListLaws.{all-at}
 use Rattle.sector.proofs.CodecLaws.{table-length, record-length}
 use Rattle.volume.specs.Places.{sectorAfter, endSector}
 use Rattle.volume.specs.Lawful.{fileFits}
-use Rattle.volume.specs.Format.{filesOf, repeated, newFiles, newVolume}
+use Rattle.sector.specs.Shapes.{filesOf, pairAt}
+use Rattle.volume.specs.Format.{repeated, newFiles, newVolume}
 use Rattle.volume.proofs.PlaceLaws.{after-least}
-use Rattle.format.specs.Requests.{pairAt}
-use Rattle.format.specs.Puts.{Puts}
-use Rattle.format.proofs.PutsLaws.{puts-zeros, puts-more, puts-store}
-use Rattle.format.proofs.RequestLaws.{files-from, first-fits}
-use Rattle.volume.proofs.FormatLaws.{newHeader, repeated-length, new-header-length, new-files-length}
+use Rattle.sector.specs.Puts.{Puts}
+use Rattle.sector.proofs.PutsLaws.{puts-zeros, puts-more, puts-store}
+use Rattle.sector.proofs.ShapeLaws.{files-from}
+use Rattle.format.proofs.RequestLaws.{first-fits}
+use Rattle.volume.proofs.FormatLaws.{repeated-length, new-header-length, new-files-length}
 
 -- ------------------------------------------------------------------ the records
 idle-length : length (encodeRecord idleRecord) ≡ 256
@@ -57,14 +59,14 @@ file-room l i h n lt room =
     let r : 256 * sectorAfter (h + 1 + pairAt l i .slots) (drop (i + 1) (filesOf l)) ≤ n = rw (files-from l i lt) at room in
     omega (arith, after-least (h + 1 + pairAt l i .slots) (drop (i + 1) (filesOf l)))
 
-pub file-pages : (l : Bytes) (i : ℕ) → i < length l / 2 → every fileFits (drop i (filesOf l)) ≡ true → pairAt l i .pages ≤ 248
+pub file-pages : (l : Bytes) (i : ℕ) → i < length l / 2 → every fileFits (drop i (filesOf l)) ≡ true → pairAt l i .pages ≤ itemsRoom
 file-pages l i lt fits =
-    let h : pairAt l i .pages ≤ 120 = leb-true _ _ (all-at _ 1 (first-fits l i lt fits)) in
+    let h : pairAt l i .pages ≤ pageLimit = leb-true _ _ (all-at _ 1 (first-fits l i lt fits)) in
     omega arith
 
 -- ------------------------------------------------------------------ all of it
 pub laid-out : (t : Table) (a c e : Bytes) → a ≡ replicate (256 * t .sectors) 0
-    → length (t .files) ≤ 62 → every fileFits (t .files) ≡ true → endSector t ≤ t .sectors
+    → length (t .files) ≤ entryLimit → every fileFits (t .files) ≡ true → endSector t ≤ t .sectors
     → Puts 256 (repeated (t .clients) (encodeRecord idleRecord)) (storeAt a 0 (encodeTable t)) c
     → Puts (256 * (t .clients + 1)) (newFiles (t .files)) c e
     → e ≡ newVolume t

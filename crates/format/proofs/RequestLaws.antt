@@ -1,39 +1,16 @@
--- The files of a list of pairs, one after the other, and the loops over them: a loop keeps that the result is decided by the
--- files from index i on, and a turn takes the first of these. Each by the pairs of the list.
-use mathlib.Core.Path.{_≡_, refl}
+-- The loops over the files of a list of pairs: a loop keeps that the result is decided by the files from index i on, and a turn
+-- takes the first of these.
+use mathlib.Core.Path.{_≡_}
 use mathlib.Core.Bool.{true, false}
-use mathlib.Core.List.{[], _∷_}
-use Prim.Native.Nat.{ℕ, zero, suc, _+_, _*_, _/_, _≤_, _<_}
-use native.Mathlib.Nat.{not-suc-le-zero}
-use native.Mathlib.Omega.{arith}
-use lib.ListN.{length, drop, drop-of-length-le}
-use Rattle.sector.specs.Lists.{every}
+use Prim.Native.Nat.{ℕ, _+_, _/_, _≤_, _<_}
+use lib.ListN.{length, drop}
+use Rattle.lists.specs.Lists.{every}
 use Rattle.sector.specs.Contents.{Bytes}
-use Rattle.sector.proofs.ListLaws.{and-left, and-right}
+use Rattle.sector.specs.Shapes.{filesOf, pairAt}
+use Rattle.lists.proofs.ListLaws.{and-left, and-right}
+use Rattle.sector.proofs.ShapeLaws.{files-from, files-end}
 use Rattle.volume.specs.Places.{sectorAfter}
 use Rattle.volume.specs.Lawful.{fileFits}
-use Rattle.volume.specs.Format.{filesOf}
-use Rattle.format.specs.Requests.{pairAt}
-
-pub files-count : (l : Bytes) → length (filesOf l) ≡ length l / 2
-unfolding filesOf
-files-count [] = refl
-files-count (p ∷ []) = refl
-files-count (p ∷ r ∷ l) = omega (arith, files-count l)
-
-pub files-from : (l : Bytes) (i : ℕ) → i < length l / 2 → drop i (filesOf l) ≡ pairAt l i ∷ drop (i + 1) (filesOf l)
-unfolding filesOf
-files-from [] i h = absurd (not-suc-le-zero {n = 0} (omega arith))
-files-from (p ∷ []) i h = absurd (not-suc-le-zero {n = 0} (omega arith))
-files-from (p ∷ r ∷ l) zero h = refl
-files-from (p ∷ r ∷ l) (suc i) h =
-    let e : 2 * suc i ≡ suc (suc (2 * i)) = omega arith in
-    let e1 : suc (suc (2 * i)) + 1 ≡ suc (suc (2 * i + 1)) = omega arith in
-    let e2 : suc i + 1 ≡ suc (i + 1) = omega arith in
-    rw (e, e1, e2) (files-from l i (omega arith))
-
-pub files-end : (l : Bytes) (i : ℕ) → length l / 2 ≤ i → drop i (filesOf l) ≡ []
-files-end l i h = drop-of-length-le (filesOf l) {i = i} (rw (files-count l) h)
 
 -- ------------------------------------------------------------------ whether each file fits
 module _ (l : Bytes) (i : ℕ) where

@@ -1,7 +1,7 @@
 -- What a format's result and the array afterwards say together.
 use Rattle.interface.specs.declared.FormatOutcome.{FormatOutcome}
 use Rattle.interface.specs.Answers.{formatAnswerOf}
-use Rattle.sector.specs.Sectors.{Volume}
+use Rattle.volume.specs.Volumes.{Volume}
 use Rattle.volume.specs.Format.{Formatted}
 
 -- The answer, and the array.

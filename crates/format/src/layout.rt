@@ -1,25 +1,28 @@
-// The array of a new volume: zeros, into which the control sectors are stored rising by sector, each built in the working
-// sector.
-use crate::build::new_header;
-use crate::build::new_table;
+// The array of a new volume: zeros, into which the control sectors are stored rising by sector, each built in the
+// working sector.
 use sector::Sector;
+use sector::State;
 use sector::empty_record;
-use sector::size;
+use sector::new_header;
+use sector::new_table;
 use sector::store;
+use sector::wide;
 use sector::zeros;
 ghost use mathlib.Core.Path.{_≡_};
 ghost use mathlib.Core.Bool.{true};
-ghost use Prim.Native.Nat.{_+_, _*_, _≤_};
+ghost use Prim.Native.Nat.{_+_, _*_, _/_, _≤_, _<_};
 ghost use lib.ListN.{length, replicate};
-ghost use Rattle.sector.specs.Lists.{every, from};
-ghost use Rattle.sector.specs.Contents.{File, idleRecord};
+ghost use Rattle.lists.specs.Lists.{every};
+ghost use Rattle.sector.specs.Layout.{itemsRoom, sectorLimit, fileLimit};
+ghost use Rattle.sector.specs.Contents.{File, idleRecord, newHeader};
 ghost use Rattle.sector.specs.Sectors.{storeAt};
 ghost use Rattle.sector.specs.Encoding.{encodeTable, encodeRecord, encodeHeader};
 ghost use Rattle.volume.specs.Places.{sectorAfter};
 ghost use Rattle.volume.specs.Lawful.{fileFits};
-ghost use Rattle.volume.specs.Format.{filesOf, tableFor, repeated, newFiles, newVolume};
+ghost use Rattle.sector.specs.Shapes.{filesOf, pairAt};
+ghost use Rattle.volume.specs.Format.{tableFor, repeated, newFiles, newVolume};
 ghost use Rattle.format.specs.Requests.{Fits};
-ghost use Rattle.format.specs.Puts.{Puts};
+ghost use Rattle.sector.specs.Puts.{Puts};
 
 // Every byte becomes zero.
 fn clear(v: &mut [u8])
@@ -34,7 +37,7 @@ fn clear(v: &mut [u8])
 
 // The table is stored in sector 0.
 fn put_table(v: &mut [u8], clients: u8, shape: &[u8])
-    requires { ⌜ (256 ≤ length (now v)) × (length (now v) ≤ 262144) × (length (now shape) ≤ 32) ⌝ }
+    requires { ⌜ (256 ≤ length (now v)) × (length (now v) ≤ 256 * sectorLimit) × (length (now shape) ≤ 2 * fileLimit) ⌝ }
     ensures { λ _. ⌜ now (v .exit) ≡ storeAt (now (v .entry)) 0 (encodeTable (tableFor (length (now (v .entry))) clients (now (shape .entry)))) ⌝ }
 {
     let mut buf = zeros();
@@ -48,7 +51,7 @@ fn put_record(v: &mut [u8], k: usize)
     ensures { λ _. ⌜ now (v .exit) ≡ storeAt (now (v .entry)) k (encodeRecord idleRecord) ⌝ }
 {
     let mut buf = zeros();
-    empty_record(&mut buf, 0);
+    empty_record(&mut buf, State::IDLE);
     store(v, k, &buf);
 }
 
@@ -65,28 +68,29 @@ fn put_records(v: &mut [u8], clients: usize)
     }
 }
 
-// The header of a new file is stored in sector h.
-fn put_header(v: &mut [u8], h: usize, pages: u8)
-    requires { ⌜ (256 * h + 256 ≤ length (now v)) × (h ≤ 65536) × (pages ≤ 248) ⌝ }
-    ensures { λ _. ⌜ ((x : File) → now (v .exit) ≡ storeAt (now (v .entry)) h (encodeHeader x (record { holder = 0; map = from 0 pages }))) ⌝ }
+// The header of the file with index i is stored in sector h.
+fn put_header(v: &mut [u8], h: usize, shape: &[u8], i: usize)
+    requires { ⌜ (256 * h + 256 ≤ length (now v)) × (h ≤ 65536) × (length (now shape) ≤ 2 * fileLimit)
+        × (i < length (now shape) / 2) × (pairAt (now shape) i .pages ≤ itemsRoom) ⌝ }
+    ensures { λ _. ⌜ now (v .exit) ≡ storeAt (now (v .entry)) h (encodeHeader (pairAt (now (shape .entry)) i) (newHeader (pairAt (now (shape .entry)) i))) ⌝ }
 {
     let mut buf = zeros();
-    new_header(&mut buf, pages);
+    new_header(&mut buf, shape, i);
     store(v, h, &buf);
 }
 
 // The headers of all files, the first one's in sector `first`. Their slots are zeros already.
 fn put_files(v: &mut [u8], first: usize, shape: &[u8])
-    requires { ⌜ (256 * sectorAfter first (filesOf (now shape)) ≤ length (now v)) × (length (now v) ≤ 262144)
-        × (every fileFits (filesOf (now shape)) ≡ true) ⌝ }
+    requires { ⌜ (256 * sectorAfter first (filesOf (now shape)) ≤ length (now v)) × (length (now v) ≤ 256 * sectorLimit)
+        × (length (now shape) ≤ 2 * fileLimit) × (every fileFits (filesOf (now shape)) ≡ true) ⌝ }
     ensures { λ _. ⌜ Puts (256 * first) (newFiles (filesOf (now (shape .entry)))) (now (v .entry)) (now (v .exit)) ⌝ }
 {
     let n = shape.len() / 2;
     let mut h = first;
     let mut i = 0;
     while i < n {
-        put_header(v, h, shape[2 * i]);
-        h = h + 1 + size(shape[2 * i + 1]);
+        put_header(v, h, shape, i);
+        h = h + 1 + wide(shape[2 * i + 1]);
         i += 1;
     }
 }
@@ -98,6 +102,6 @@ pub fn lay_out(v: &mut [u8], clients: u8, shape: &[u8])
 {
     clear(v);
     put_table(v, clients, shape);
-    put_records(v, size(clients));
-    put_files(v, size(clients) + 1, shape);
+    put_records(v, wide(clients));
+    put_files(v, wide(clients) + 1, shape);
 }

@@ -1,17 +1,18 @@
 // Whether what is asked for can be laid out: the array's length, the number of clients, and the list of files.
-use interface::Session;
+use sector::Limits;
 use sector::Sector;
-use sector::size;
-use volume::Limits;
+use sector::wide;
+use volume::file_fits;
 ghost use mathlib.Core.Path.{_≡_};
-ghost use Prim.Native.Nat.{_≤_};
+ghost use Prim.Native.Nat.{_*_, _≤_};
 ghost use lib.ListN.{length};
-ghost use Rattle.sector.specs.Lists.{every};
+ghost use Rattle.lists.specs.Lists.{every};
+ghost use Rattle.sector.specs.Layout.{fileLimit};
 ghost use Rattle.sector.specs.Contents.{firstHeader};
 ghost use Rattle.volume.specs.Places.{sectorAfter};
 ghost use Rattle.volume.specs.Lawful.{fileFits};
-ghost use Rattle.volume.specs.Format.{filesOf};
-ghost use Rattle.format.specs.Requests.{lengthFits, shapeFits};
+ghost use Rattle.volume.specs.Format.{lengthFits, shapeFits};
+ghost use Rattle.sector.specs.Shapes.{filesOf};
 
 // Whether n bytes are a whole number of sectors, and not too many.
 pub fn length_fits(n: usize) -> bool
@@ -30,7 +31,7 @@ pub fn shape_fits(clients: u8, shape: &[u8]) -> bool
     if clients < 1 {
         return false;
     }
-    if Session::CLIENTS < size(clients) {
+    if Limits::CLIENTS < wide(clients) {
         return false;
     }
     if shape.len() % 2 != 0 {
@@ -60,32 +61,16 @@ fn files_fit(shape: &[u8]) -> bool
     true
 }
 
-// Whether a file of so many pages and slots is in range.
-fn file_fits(pages: u8, slots: u8) -> bool
-    ensures { λ r. ⌜ r ≡ fileFits (record { pages = pages; slots = slots }) ⌝ }
-{
-    if pages < 1 {
-        return false;
-    }
-    if Limits::PAGES < pages {
-        return false;
-    }
-    if slots < pages {
-        return false;
-    }
-    slots <= Limits::SLOTS
-}
-
 // The sector after the last file.
 pub fn end_sector(clients: u8, shape: &[u8]) -> usize
-    requires { ⌜ length (now shape) ≤ 32 ⌝ }
+    requires { ⌜ length (now shape) ≤ 2 * fileLimit ⌝ }
     ensures { λ r. ⌜ r ≡ sectorAfter (firstHeader clients) (filesOf (now (shape .entry))) ⌝ }
 {
     let n = shape.len() / 2;
-    let mut h = size(clients) + 1;
+    let mut h = wide(clients) + 1;
     let mut i = 0;
     while i < n {
-        h = h + 1 + size(shape[2 * i + 1]);
+        h = h + 1 + wide(shape[2 * i + 1]);
         i += 1;
     }
     h

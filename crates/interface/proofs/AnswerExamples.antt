@@ -5,9 +5,9 @@ use mathlib.Core.List.{[], _∷_, map}
 use Rattle.interface.specs.declared.Session.{Session}
 use Rattle.interface.specs.declared.Refusal.the-variants.{NotSound, BadSession, NoClient, AlreadyActive, NotActive, NoFile, FileInUse, NotHeld, NoPage, BadPageLength, NoFreeSlot, RecordFull, BadVolumeLength, BadShape, TooFewSectors}
 use Rattle.interface.specs.declared.Outcome.{Outcome}
-use Rattle.interface.specs.declared.ReadOutcome.{ReadOutcome}
+use Rattle.interface.specs.declared.QueryOutcome.{QueryOutcome}
 use Rattle.interface.specs.declared.FormatOutcome.{FormatOutcome}
-use Rattle.interface.specs.Answers.{newSession, sessionOf, sessionByte, done, crashed, refused, found, readRefused, formatDone, formatRefused, refusalNumber, answerOf, readAnswerOf, formatAnswerOf}
+use Rattle.interface.specs.Answers.{newSession, sessionOf, sessionByte, done, crashed, refused, found, queryRefused, formatDone, formatRefused, refusalNumber, answerOf, queryAnswerOf, formatAnswerOf}
 
 -- ------------------------------------------------------------------ sessions: newSession, sessionOf, sessionByte, markWorth
 abbrev marks : Bool → Bool → Bool → Bool → Session
@@ -38,7 +38,7 @@ bytes-of-sessions = refl
 too-few-marks : sessionByte (record { active = [] }) ≡ 0
 too-few-marks = refl
 
--- ------------------------------------------------------------------ answers: refusalNumber, answerOf, readAnswerOf, formatAnswerOf
+-- ------------------------------------------------------------------ answers: refusalNumber, answerOf, queryAnswerOf, formatAnswerOf
 -- The table under Refusals, downwards.
 refusal-numbers : map refusalNumber
     (NotSound ∷ BadSession ∷ NoClient ∷ AlreadyActive ∷ NotActive ∷ NoFile ∷ FileInUse ∷ NotHeld ∷ NoPage ∷ BadPageLength
@@ -52,7 +52,7 @@ answers : map answerOf (Outcome.Done 4 ∷ Outcome.Crashed 3 ∷ Outcome.Refused
 answers = refl
 
 -- Read "answers the sector number".
-read-answers : map readAnswerOf (ReadOutcome.Sector 6 ∷ ReadOutcome.Refused NotHeld ∷ []) ≡ found 6 ∷ readRefused 8 ∷ []
+read-answers : map queryAnswerOf (QueryOutcome.Sector 6 ∷ QueryOutcome.Refused NotHeld ∷ []) ≡ found 6 ∷ queryRefused 8 ∷ []
 read-answers = refl
 
 -- Layout "answers done without a count".

@@ -8,7 +8,7 @@ use Rattle.interface.specs.declared.Session.{Session}
 use Rattle.interface.specs.declared.Refusal.{Refusal}
 use Rattle.interface.specs.declared.Refusal.the-variants.{NotSound, BadSession, NoClient, AlreadyActive, NotActive, NoFile, FileInUse, NotHeld, NoPage, BadPageLength, NoFreeSlot, RecordFull, BadVolumeLength, BadShape, TooFewSectors}
 use Rattle.interface.specs.declared.Outcome.{Outcome}
-use Rattle.interface.specs.declared.ReadOutcome.{ReadOutcome}
+use Rattle.interface.specs.declared.QueryOutcome.{QueryOutcome}
 use Rattle.interface.specs.declared.FormatOutcome.{FormatOutcome}
 
 -- "A new session has no kiln open."
@@ -34,9 +34,9 @@ sessionByte s =
 pub data Answer : Type 0 where
   done crashed refused : ℕ → Answer
 
--- Read "answers the sector number"; or a refusal's number.
-pub data ReadAnswer : Type 0 where
-  found readRefused : ℕ → ReadAnswer
+-- A question's answer: read "answers the sector number"; or a refusal's number.
+pub data QueryAnswer : Type 0 where
+  found queryRefused : ℕ → QueryAnswer
 
 -- Layout "answers done without a count"; or a refusal's number.
 pub data FormatAnswer : Type 0 where
@@ -67,10 +67,10 @@ answerOf (Outcome.Done n) = done n
 answerOf (Outcome.Crashed n) = crashed n
 answerOf (Outcome.Refused r) = refused (refusalNumber r)
 
--- Each case of a read's outcome.
-abbrev pub readAnswerOf : ReadOutcome → ReadAnswer
-readAnswerOf (ReadOutcome.Sector n) = found n
-readAnswerOf (ReadOutcome.Refused r) = readRefused (refusalNumber r)
+-- Each case of a question's outcome.
+abbrev pub queryAnswerOf : QueryOutcome → QueryAnswer
+queryAnswerOf (QueryOutcome.Sector n) = found n
+queryAnswerOf (QueryOutcome.Refused r) = queryRefused (refusalNumber r)
 
 -- Each case of a format's outcome.
 abbrev pub formatAnswerOf : FormatOutcome → FormatAnswer

@@ -1,5 +1,5 @@
--- A line of the listing: its parts as the code writes them, and its length by theirs. Then the loop that writes a line for each
--- of the numbers 1 to n: where it starts, a turn and its end, by the first of the lines that are left.
+-- The length of a line of the listing, by its parts. Then the loop that writes a line for each of the numbers 1 to n: where it
+-- starts, a turn and its end, by the first of the lines that are left.
 use mathlib.Core.Path.{_≡_, refl, _∙_}
 use mathlib.Core.List.{[], _∷_, _++_}
 use Prim.Native.Nat.{ℕ, suc, _+_, _-_, _≤_, _<_}
@@ -7,55 +7,35 @@ use native.Mathlib.Numerals.{add-one}
 use native.Mathlib.Omega.{arith}
 use lib.ListN.{length, length-append}
 use lib.Seq.{length-sets}
-use Rattle.sector.specs.Lists.{from}
-use Rattle.sector.specs.Contents.{Bytes, File, Record, Header}
-use Rattle.sector.specs.Decoding.{stateIn, countIn, decodeRecord}
-use Rattle.sector.proofs.CodecLaws.{decoded-count}
+use Rattle.lists.specs.Lists.{from}
+use Rattle.sector.specs.Contents.{Bytes}
 use Rattle.volume.specs.Listing.{decimal, stateWord, clientText, sectorsText, pagesText, clientLine, fileLine, lines}
-use Rattle.listing.specs.Writes.{Wrote}
-use Rattle.listing.proofs.WritesLaws.{wrote-none, wrote-more}
+use Rattle.text.specs.Writes.{Wrote}
+use Rattle.text.proofs.WritesLaws.{wrote-none, wrote-more}
 
--- ------------------------------------------------------------------ a client's line
-pub client-length : (k : ℕ) (r : Record)
-    → length (clientLine k r) ≡ 8 + length (decimal k) + length (stateWord (r .state)) + length (decimal (length (r .entries)))
+-- ------------------------------------------------------------------ one line
+pub client-length : (k state count : ℕ)
+    → length (clientLine k state count) ≡ 8 + length (decimal k) + length (stateWord state) + length (decimal count)
 unfolding clientLine
-client-length k r =
-    let c : Bytes = decimal (length (r .entries)) ++ (0x0A ∷ []) in
-    let s : Bytes = stateWord (r .state) ++ (0x20 ∷ c) in
-    omega (arith, length-append (decimal k) (0x20 ∷ s), length-append (stateWord (r .state)) (0x20 ∷ c), length-append (decimal (length (r .entries))) (0x0A ∷ []))
+client-length k state count =
+    let c : Bytes = decimal count ++ (0x0A ∷ []) in
+    let s : Bytes = stateWord state ++ (0x20 ∷ c) in
+    omega (arith, length-append (decimal k) (0x20 ∷ s), length-append (stateWord state) (0x20 ∷ c), length-append (decimal count) (0x0A ∷ []))
 
--- From the bytes of the record.
-module _ (k : ℕ) (d : Bytes) where
-  pub client-room : length (clientLine k (decodeRecord d)) ≡ 8 + length (decimal k) + length (stateWord (stateIn d)) + length (decimal (countIn d))
-  unfolding decodeRecord
-  client-room = client-length k (decodeRecord d) ∙ rw (decoded-count d)
-
-  pub client-parts : clientLine k (decodeRecord d)
-      ≡ (clientText ++ decimal k) ++ ((0x20 ∷ stateWord (stateIn d)) ++ ((0x20 ∷ decimal (countIn d)) ++ (0x0A ∷ [])))
-  unfolding clientLine decodeRecord
-  client-parts = rw (decoded-count d)
-
--- ------------------------------------------------------------------ a file's line
-pub file-length : (f : ℕ) (h : Header) (x : File)
-    → length (fileLine f h x) ≡ 28 + length (decimal f) + length (decimal (h .holder)) + length (decimal (x .pages)) + length (decimal (x .slots))
+pub file-length : (f holder pages slots : ℕ)
+    → length (fileLine f holder pages slots) ≡ 28 + length (decimal f) + length (decimal holder) + length (decimal pages) + length (decimal slots)
 unfolding fileLine
-file-length f h x =
-    let s : Bytes = decimal (x .slots) ++ (0x0A ∷ []) in
-    let p : Bytes = decimal (x .pages) ++ (sectorsText ++ s) in
-    let o : Bytes = decimal (h .holder) ++ (pagesText ++ p) in
+file-length f holder pages slots =
+    let s : Bytes = decimal slots ++ (0x0A ∷ []) in
+    let p : Bytes = decimal pages ++ (sectorsText ++ s) in
+    let o : Bytes = decimal holder ++ (pagesText ++ p) in
     omega (
       arith,
       length-append (decimal f) (0x20 ∷ (clientText ++ o)),
-      length-append (decimal (h .holder)) (pagesText ++ p),
-      length-append (decimal (x .pages)) (sectorsText ++ s),
-      length-append (decimal (x .slots)) (0x0A ∷ []),
+      length-append (decimal holder) (pagesText ++ p),
+      length-append (decimal pages) (sectorsText ++ s),
+      length-append (decimal slots) (0x0A ∷ []),
     )
-
--- The line has these numbers alone.
-pub file-parts : (f : ℕ) (h : Header) (x : File) (a b c : ℕ) → a ≡ h .holder → b ≡ x .pages → c ≡ x .slots
-    → fileLine f (record { holder = a; map = [] }) (record { pages = b; slots = c }) ≡ fileLine f h x
-unfolding fileLine
-file-parts f h x a b c p q r = rw (p, q, r)
 
 -- ------------------------------------------------------------------ the lines of the numbers 1 to n
 -- They are being written to b, from `start` on, and k is next: b has become c, those from k on have room at `at`, and whoever

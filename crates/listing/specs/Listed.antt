@@ -1,14 +1,13 @@
 -- What a listing answers, and the bytes it is given afterwards.
 use lib.Dec.{ltb}
 use lib.ListN.{length}
-use Rattle.sector.specs.Lists.{if_then_else_}
+use Rattle.lists.specs.Lists.{if_then_else_}
 use Rattle.sector.specs.Contents.{Bytes}
-use Rattle.sector.specs.Sectors.{Volume}
-use Rattle.volume.specs.Volumes.{view}
+use Rattle.volume.specs.Volumes.{Volume, view}
 use Rattle.volume.specs.Sound.{sound}
 use Rattle.volume.specs.Listing.{listing, printed}
 use Rattle.listing.specs.declared.ListOutcome.{ListOutcome}
-use Rattle.listing.specs.Writes.{atFront, ToPrint, textFirst, nothingFirst}
+use Rattle.text.specs.Writes.{atFront, ToPrint, textFirst, nothingFirst}
 
 -- The outcome, and the bytes.
 pub record Listed : Type 0 where

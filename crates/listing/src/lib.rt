@@ -1,11 +1,10 @@
 // The listing of a volume, for people at the bench: a line for each client and one for each file, in ASCII.
 mod lines;
-mod text;
 
 use crate::lines::list_clients;
 use crate::lines::list_files;
 use soundness::is_sound;
-pub use text::put;
+use text::put;
 ghost use mathlib.Core.Path.{_≡_};
 ghost use mathlib.Core.Bool.{true};
 ghost use Prim.Native.Nat.{_≤_};
@@ -13,7 +12,7 @@ ghost use lib.ListN.{length, take};
 ghost use Rattle.volume.specs.Volumes.{view};
 ghost use Rattle.volume.specs.Sound.{sound};
 ghost use Rattle.volume.specs.Listing.{listing};
-ghost use Rattle.listing.specs.Writes.{Wrote};
+ghost use Rattle.text.specs.Writes.{Wrote};
 ghost use Rattle.listing.specs.Listed.{listed, toPrint};
 
 // What every listing has in common.
@@ -28,7 +27,7 @@ impl Listing {
 
 // How a listing ended.
 pub enum ListOutcome {
-    // The text is written, and has so many bytes.
+    // The text is written, and has this many bytes.
     Listed(usize),
     // The volume is not sound. Nothing is written.
     NotSound,
@@ -45,8 +44,8 @@ fn list_lines(v: &[u8], out: &mut [u8]) -> usize
     list_files(v, out, at)
 }
 
-// Writes the listing of the volume to the front of `out`, and leaves what is behind it as it was. So it is wrong to leave
-// out the line of the last file, and wrong to write anything if the volume is not sound.
+// Writes the listing of the volume to the front of `out`, and leaves the rest as it was. Ruled out: the line of the
+// last file left out (`must-fail/skips_the_last_file`); anything written if the volume is not sound.
 pub fn list(v: &[u8], out: &mut [u8]) -> ListOutcome
     ensures { λ r. ⌜ (record { outcome = r; out = now (out .exit) }) ≡ listed (now (v .entry)) (now (out .entry)) ⌝ }
 {
@@ -59,8 +58,9 @@ pub fn list(v: &[u8], out: &mut [u8]) -> ListOutcome
     ListOutcome::Listed(list_lines(v, out))
 }
 
-// Writes what the listing program prints to the front of `out`, and hands back its length: `too long`, `not sound`, or the
-// listing. So it is wrong to list a volume of 65,537 bytes, and wrong to print nothing if the volume is not sound.
+// Writes what the listing program prints to the front of `out`, and hands back its length: `too long`, `not sound`, or
+// the listing. Ruled out: a volume of 65,537 bytes listed (`must-fail/lists_a_long_one`); nothing printed if the volume
+// is not sound.
 pub fn print(v: &[u8], out: &mut [u8]) -> usize
     ensures { λ r. ⌜ (record { count = r; out = now (out .exit) }) ≡ toPrint (now (v .entry)) (now (out .entry)) ⌝ }
     ensures { λ r. ⌜ (r ≤ length (now (out .exit))) × (r ≡ length (take r (now (out .exit)))) ⌝ }

@@ -1,100 +1,36 @@
--- The loop of recovery over the files. The files passed are freed one after the other; that leaves the table, the records and
--- the headers to come as they were, so each further file is freed as the first view has it. After the last file only the idle
--- record is left of recovery's updates.
-use mathlib.Core.Path.{_≡_, refl, sym, ap, _∙_, subst}
+-- The loop of recovery over the files: what is left to do after each file is recovery's updates for the files to come, and then
+-- the idle record. A file freed leaves the table, the records and the headers to come as they were, so each further file is
+-- freed as the first view has it.
+use mathlib.Core.Path.{_≡_, refl, sym, ap, _∙_}
 use mathlib.Core.Bool.{Bool, true, false}
 use mathlib.Core.List.{List, [], _∷_, _++_, map}
 use mathlib.Core.Logic.{_≢_}
-use Prim.Native.Nat.{ℕ, zero, suc, _+_, _*_, _-_, _≤_, _<_}
-use native.Mathlib.Nat.{not-suc-le-zero}
+use Prim.Native.Nat.{ℕ, suc, _+_, _-_, _≤_, _<_}
 use native.Mathlib.Omega.{arith}
 use borrow.Author.Tests.{eq-eqb, ne-eqb}
 use lib.ListN.{length, length-set}
-use Rattle.sector.specs.Lists.{if_then_else_, filter, from}
-use Rattle.sector.specs.Contents.{Table, Entry, Record, idleRecord}
+use Rattle.lists.specs.Lists.{if_then_else_, filter, member, from}
+use Rattle.sector.specs.Contents.{Entry, Record, Header, idleRecord}
 use Rattle.sector.specs.Entries.{forFile, redone}
-use Rattle.sector.specs.Sectors.{Volume}
-use Rattle.sector.proofs.CaseLaws.{if-test}
-use Rattle.volume.specs.Places.{IsFile}
-use Rattle.volume.specs.Views.{View, Update, setRecord, setHeader, changedBy}
-use Rattle.volume.specs.Volumes.{view}
-use Rattle.volume.specs.Known.{Known}
+use Rattle.lists.proofs.ListLaws.{no-both}
+use Rattle.lists.proofs.CaseLaws.{if-test, if-equal}
+use Rattle.volume.specs.Places.{IsClient, IsFile}
+use Rattle.volume.specs.Views.{View, Update, setRecord, setHeader, changed, changedBy}
+use Rattle.volume.specs.Volumes.{Volume, view}
+use Rattle.volume.specs.WellFormed.{WellFormed}
+use Rattle.volume.proofs.AlongLaws.{changed-append}
+use Rattle.volume.proofs.LawfulLaws.{idle-fits}
 use Rattle.volume.proofs.ReadLaws.{few-pages}
 use Rattle.rules.specs.Sessions.{holds}
 use Rattle.rules.specs.Recovery.{mapAfter, heldFiles, recovery}
-use Rattle.recovery.specs.Budget.{Made}
-use Rattle.recovery.specs.Work.{freed, releaseOf, madeIn, isShort}
-use Rattle.recovery.specs.declared.release.Step.{Step}
-use Rattle.recovery.specs.declared.release.Step.the-variants.{Skipped, Stored, Short}
-use Rattle.recovery.proofs.MadeLaws.{changed-append, Suits, suits-append, made-none, made-cut, made-known, made-view, made-table, made-more}
+use Rattle.rules.proofs.RecoveryLaws.{held-member}
+use Rattle.stores.specs.declared.Run.{Run}
+use Rattle.stores.specs.Runs.{UpdatesMade, AllMade}
+use Rattle.stores.proofs.MadeLaws.{all-table, all-none, all-one, made-going, made-same, made-more}
+use Rattle.recovery.specs.Work.{freed, releaseOf}
 
--- The updates of recovery for the first n files.
-unfoldable pub released : (redo : Bool) → View → ℕ → ℕ → List Update
-released redo a k zero = []
-released redo a k (suc n) = released redo a k n ++ releaseOf redo a k (suc n)
-
--- ------------------------------------------------------------------ they are recovery's
-from-end : (a n : ℕ) → from a (suc n) ≡ from a n ++ ((a + n) ∷ [])
-from-end a zero = let e : a + 0 ≡ a = omega arith in rw e
-from-end a (suc n) =
-    let e : a + suc n ≡ suc a + n = omega arith in
-    rw e (ap (λ (l : List ℕ). a ∷ l) (from-end (suc a) n))
-
--- One element more of a list that is filtered and mapped.
-map-filter-end : {A B : Type 0} (g : A → B) (t : A → Bool) (xs : List A) (x : A)
-    → map g (filter t (xs ++ (x ∷ []))) ≡ map g (filter t xs) ++ (if t x then g x ∷ [] else [])
-map-filter-end g t [] x = go (t x)
-  where
-    go : (b : Bool) → map g (if b then x ∷ [] else []) ≡ (if b then g x ∷ [] else [])
-    go true = refl
-    go false = refl
-map-filter-end {B = B} g t (y ∷ ys) x = go (map-filter-end g t ys x) (t y)
-  where
-    go : map g (filter t (ys ++ (x ∷ []))) ≡ map g (filter t ys) ++ (if t x then g x ∷ [] else [])
-        → (b : Bool) → map g (if b then y ∷ filter t (ys ++ (x ∷ [])) else filter t (ys ++ (x ∷ [])))
-        ≡ map g (if b then y ∷ filter t ys else filter t ys) ++ (if t x then g x ∷ [] else [])
-    go ih true = ap (λ (l : List B). g y ∷ l) ih
-    go ih false = ih
-
+-- ------------------------------------------------------------------ one file
 module _ (redo : Bool) (a : View) (k : ℕ) where
-  released-is : (n : ℕ) → map (λ f. setHeader f (freed redo a k f)) (filter (holds a k) (from 1 n)) ≡ released redo a k n
-  unfolding released releaseOf
-  released-is zero = refl
-  released-is (suc n) =
-      let e : 1 + n ≡ suc n = omega arith in
-      ap (λ (l : List ℕ). map (λ f. setHeader f (freed redo a k f)) (filter (holds a k) l)) (from-end 1 n)
-      ∙ map-filter-end (λ f. setHeader f (freed redo a k f)) (holds a k) (from 1 n) (1 + n)
-      ∙ rw (released-is n, e)
-
-  pub recovery-released : recovery redo a k ≡ released redo a k (length (a .table .files)) ++ (setRecord k idleRecord ∷ [])
-  unfolding recovery heldFiles
-  recovery-released = ap (λ (l : List Update). l ++ (setRecord k idleRecord ∷ [])) (released-is (length (a .table .files)))
-
-  -- ------------------------------------------------------------------ what they leave as it was
-  release-records : (f : ℕ) (b : View) → changedBy b (releaseOf redo a k f) .records ≡ b .records
-  unfolding releaseOf
-  release-records f b = if-test (λ (xs : List Update). changedBy b xs .records ≡ b .records) (holds a k f) _ [] (λ e. refl) (λ e. refl)
-
-  pub release-other : (f g : ℕ) (b : View) → g ≢ f → changedBy b (releaseOf redo a k f) .headers g ≡ b .headers g
-  unfolding releaseOf
-  release-other f g b n = if-test (λ (xs : List Update). changedBy b xs .headers g ≡ b .headers g) (holds a k f) _ []
-      (λ e. rw (ne-eqb g f n)) (λ e. refl)
-
-  released-records : (n : ℕ) → changedBy a (released redo a k n) .records ≡ a .records
-  unfolding released
-  released-records zero = refl
-  released-records (suc n) =
-      ap (λ (b : View). b .records) (changed-append (released redo a k n) (releaseOf redo a k (suc n)) a)
-      ∙ release-records (suc n) (changedBy a (released redo a k n)) ∙ released-records n
-
-  released-ahead : (n g : ℕ) → n < g → changedBy a (released redo a k n) .headers g ≡ a .headers g
-  unfolding released
-  released-ahead zero g h = refl
-  released-ahead (suc n) g h =
-      ap (λ (b : View). b .headers g) (changed-append (released redo a k n) (releaseOf redo a k (suc n)) a)
-      ∙ release-other (suc n) g (changedBy a (released redo a k n)) (omega arith) ∙ released-ahead n g (omega arith)
-
-  -- A file is freed if k holds it, and then its header is stored.
   pub release-none : (f : ℕ) → a .headers f .holder ≢ k → releaseOf redo a k f ≡ []
   unfolding releaseOf
   release-none f n = rw (ne-eqb _ k n)
@@ -108,7 +44,32 @@ module _ (redo : Bool) (a : View) (k : ℕ) where
   unfolding releaseOf
   release-same b f r h = rw (r, h)
 
--- ------------------------------------------------------------------ they leave a volume known
+  release-records : (f : ℕ) (b : View) → changedBy b (releaseOf redo a k f) .records ≡ b .records
+  unfolding releaseOf
+  release-records f b = if-test (λ (xs : List Update). changedBy b xs .records ≡ b .records) (holds a k f) _ [] (λ e. refl) (λ e. refl)
+
+  pub release-other : (f g : ℕ) (b : View) → g ≢ f → changedBy b (releaseOf redo a k f) .headers g ≡ b .headers g
+  unfolding releaseOf
+  release-other f g b n = if-test (λ (xs : List Update). changedBy b xs .headers g ≡ b .headers g) (holds a k f) _ []
+      (λ e. rw (ne-eqb g f n)) (λ e. refl)
+
+  -- The updates of recovery for these files, and the idle record.
+  abbrev pub rest : List ℕ → List Update
+  rest fs = map (λ f. setHeader f (freed redo a k f)) (filter (holds a k) fs) ++ (setRecord k idleRecord ∷ [])
+
+  pub rest-all : recovery redo a k ≡ rest (from 1 (length (a .table .files)))
+  unfolding recovery heldFiles
+  rest-all = refl
+
+  pub rest-more : (f : ℕ) (fs : List ℕ) → rest (f ∷ fs) ≡ releaseOf redo a k f ++ rest fs
+  unfolding releaseOf
+  rest-more f fs = go (holds a k f)
+    where
+      go : (b : Bool) → map (λ f. setHeader f (freed redo a k f)) (if b then f ∷ filter (holds a k) fs else filter (holds a k) fs) ++ (setRecord k idleRecord ∷ [])
+          ≡ (if b then setHeader f (freed redo a k f) ∷ [] else []) ++ rest fs
+      go true = refl
+      go false = refl
+
 redone-length : (f : ℕ) (es : List Entry) (m : List ℕ) → length (redone f es m) ≡ length m
 unfolding redone
 redone-length f [] m = refl
@@ -119,92 +80,109 @@ after-length : (redo : Bool) (a : View) (k f : ℕ) → length (mapAfter redo a 
 after-length true a k f = redone-length f (a .records k .entries) (a .headers f .map)
 after-length false a k f = refl
 
-module _ (v : Volume) (known : Known v) (redo : Bool) (k : ℕ) where
-  release-suits : (f : ℕ) → IsFile (view v .table) f → Suits (view v .table) (releaseOf redo (view v) k f)
-  unfolding releaseOf
-  release-suits f i = if-test (Suits (view v .table)) (holds (view v) k f) _ []
-      (λ e. ((i, after-length redo (view v) k f ∙ known .map-size f (i .low) (i .high), omega (arith, few-pages v known f i)), tt, tt)) (λ e. tt)
-
-  pub released-suits : (n : ℕ) → n ≤ length (view v .table .files) → Suits (view v .table) (released redo (view v) k n)
-  unfolding released
-  released-suits zero h = tt
-  released-suits (suc n) h = suits-append (view v .table) (released redo (view v) k n) _
-      (released-suits n (omega arith)) (release-suits (suc n) (record { low = omega arith; high = h }))
+-- A file that was freed, or that k doesn't hold.
+release-all : {v w : Volume} {r q : Run} (redo : Bool) (k f : ℕ) → WellFormed v → IsFile (view v .table) f
+    → UpdatesMade v r (releaseOf redo (view v) k f) w q → q .crashed ≡ false → AllMade v (releaseOf redo (view v) k f) w
+unfolding releaseOf
+release-all {v} {w} {r} {q} redo k f formed i m c = if-test (λ (xs : List Update). UpdatesMade v r xs w q → AllMade v xs w) (holds (view v) k f) _ []
+    (λ e m. all-one _ formed (i, after-length redo (view v) k f ∙ formed .map-size f (i .low) (i .high), omega (arith, few-pages v formed f i)) m c)
+    (λ e m. all-none formed m) m
 
 -- ------------------------------------------------------------------ the loop
--- File f is next: the files before it are freed, and the budget sufficed.
-pub record Turn (v₀ : Volume) (redo : Bool) (k budget : ℕ) (v : Volume) (made f : ℕ) : Type 0 where
+-- What the run finds at file f if it hasn't crashed.
+record Ahead (a : View) (redo : Bool) (k f : ℕ) (fs : List ℕ) (v : Volume) : Type 0 where
+  formed : WellFormed v
+  table : view v .table ≡ a .table
+  own : view v .records k ≡ a .records k
+  headers : (g : ℕ) → f ≤ g → view v .headers g ≡ a .headers g
+  seen : changedBy (view v) (rest redo a k fs) ≡ changedBy a (recovery redo a k)
+
+-- The files from f on.
+abbrev filesFrom : View → ℕ → List ℕ
+filesFrom a f = from f (length (a .table .files) + 1 - f)
+
+-- File f is next: what is left of recovery is its updates from there on.
+pub record Turn (v₀ : Volume) (r₀ : Run) (redo : Bool) (k : ℕ) (v : Volume) (r : Run) (f : ℕ) : Type 0 where
   pub low : 1 ≤ f
   pub high : f ≤ length (view v₀ .table .files) + 1
-  pub run : Made budget v₀ (released redo (view v₀) k (f - 1)) v made false
+  left : {u : Volume} {q : Run} → UpdatesMade v r (rest redo (view v₀) k (filesFrom (view v₀) f)) u q → UpdatesMade v₀ r₀ (recovery redo (view v₀) k) u q
+  ahead : r .crashed ≡ false → Ahead (view v₀) redo k f (filesFrom (view v₀) f) v
 
--- A crash at one of the first n files is one at the first i, if these are more.
-crash-later : (redo : Bool) (k : ℕ) {budget : ℕ} {v u : Volume} {made : ℕ} (n d i : ℕ) → i ≡ n + d
-    → Made budget v (released redo (view v) k n) u made true → Made budget v (released redo (view v) k i) u made true
-unfolding released
-crash-later redo k n zero i e r = let p : i ≡ n = omega arith in rw p r
-crash-later redo k n (suc d) zero e r = absurd (not-suc-le-zero {n = 0} (omega arith))
-crash-later redo k n (suc d) (suc i) e r = made-cut _ _ (crash-later redo k n d i (omega arith) r)
+pub turn-start : {v : Volume} {r : Run} {redo : Bool} {k : ℕ} → WellFormed v → Turn v r redo k v r 1
+turn-start {v} {r} {redo} {k} formed =
+    let e : length (view v .table .files) + 1 - 1 ≡ length (view v .table .files) = omega arith in
+    record {
+      low = omega arith;
+      high = omega arith;
+      left = λ m. rw (rest-all redo (view v) k) (rw e at m);
+      ahead = λ c. record { formed = formed; table = refl; own = refl; headers = λ g h. refl; seen = rw (rest-all redo (view v) k, e) };
+    }
 
-pub turn-start : (v : Volume) (redo : Bool) (k budget : ℕ) → Turn v redo k budget v 0 1
-unfolding released
-turn-start v redo k budget = record { low = omega arith; high = omega arith; run = made-none }
+module _ {v₀ : Volume} {r₀ : Run} {redo : Bool} {k : ℕ} {v : Volume} {r : Run} {f : ℕ} (client : IsClient (view v₀ .table) k)
+    (t : Turn v₀ r₀ redo k v r f) where
+  pub turn-formed : r .crashed ≡ false → WellFormed v × IsClient (view v .table) k
+  turn-formed c = (t .ahead c .formed, rw (t .ahead c .table) client)
 
-module _ {v₀ : Volume} {redo : Bool} {k budget : ℕ} (known : Known v₀) {v : Volume} {made f : ℕ} (t : Turn v₀ redo k budget v made f) where
-  suits : Suits (view v₀ .table) (released redo (view v₀) k (f - 1))
-  suits = released-suits v₀ known redo k (f - 1) (omega (arith, t .high))
-
-  pub turn-known : Known v
-  turn-known = made-known _ known suits (t .run)
-
-  seen : view v ≡ changedBy (view v₀) (released redo (view v₀) k (f - 1))
-  seen = made-view _ known suits (t .run)
-
-  pub turn-table : view v .table ≡ view v₀ .table
-  turn-table = made-table _ known suits (t .run)
-
-  pub turn-file : f ≤ length (view v₀ .table .files) → IsFile (view v .table) f
-  turn-file h = rw turn-table (record { low = t .low; high = h })
-
-  pub turn-length : length v ≡ length v₀
-  turn-length = turn-known .size ∙ ap (λ (x : Table). 256 * x .sectors) turn-table ∙ sym (known .size)
-
-  same : releaseOf redo (view v) k f ≡ releaseOf redo (view v₀) k f
-  same = release-same redo (view v₀) k (view v) f
-      (ap (λ (a : View). a .records k) seen ∙ ap (λ (r : ℕ → Record). r k) (released-records redo (view v₀) k (f - 1)))
-      (ap (λ (a : View). a .headers f) seen ∙ released-ahead redo (view v₀) k (f - 1) f (omega (arith, t .low)))
+  pub turn-file : f ≤ length (view v₀ .table .files) → r .crashed ≡ false → IsFile (view v .table) f
+  turn-file h c = rw (t .ahead c .table) (record { low = t .low; high = h })
 
   -- One file.
-  module _ (h : f ≤ length (view v₀ .table .files)) {u : Volume} (step : Step)
-      (r : Made (budget - made) v (releaseOf redo (view v) k f) u (madeIn step) (isShort step)) where
-    one-more : Made budget v₀ (released redo (view v₀) k f) u (made + madeIn step) (isShort step)
-    unfolding released
-    one-more =
-        let e : suc (f - 1) ≡ f = omega (arith, t .low) in
-        subst (λ (i : ℕ). Made budget v₀ (released redo (view v₀) k i) u (made + madeIn step) (isShort step)) e
-        (made-more _ known suits (t .run) _ (rw (same, ← e) at r))
+  module _ (h : f ≤ length (view v₀ .table .files)) {w : Volume} {q : Run} (m : UpdatesMade v r (releaseOf redo (view v) k f) w q) where
+    same : r .crashed ≡ false → releaseOf redo (view v) k f ≡ releaseOf redo (view v₀) k f
+    same c = release-same redo (view v₀) k (view v) f (t .ahead c .own) (t .ahead c .headers f (omega arith))
 
-    next : isShort step ≡ false → Turn v₀ redo k budget u (made + madeIn step) (f + 1)
-    next e =
-        let p : f + 1 - 1 ≡ f = omega arith in
-        record { low = omega arith; high = omega arith; run = rw p (rw e at one-more) }
+    made : q .crashed ≡ false → AllMade v (releaseOf redo (view v) k f) w
+    made c = release-all redo k f (turn-formed (made-going m c) .0) (turn-file h (made-going m c)) m c
 
-    pub turn-skipped : step ≡ Skipped → Turn v₀ redo k budget u made (f + 1)
-    turn-skipped e = let p : made ≡ made + madeIn step = rw e (omega arith) in rw p (next (ap isShort e))
+    abbrev later : List Update
+    later = rest redo (view v₀) k (filesFrom (view v₀) (f + 1))
 
-    pub turn-stored : step ≡ Stored → Turn v₀ redo k budget u (made + 1) (f + 1)
-    turn-stored e = rw e at (next (ap isShort e))
+    split : rest redo (view v₀) k (filesFrom (view v₀) f) ≡ releaseOf redo (view v₀) k f ++ later
+    split =
+        let n = length (view v₀ .table .files) in
+        let e : n + 1 - f ≡ suc (n + 1 - (f + 1)) = omega arith in
+        let s : suc f ≡ f + 1 = omega arith in
+        ap (λ (i : ℕ). rest redo (view v₀) k (from f i)) e ∙ rest-more redo (view v₀) k f (from (suc f) (n + 1 - (f + 1))) ∙ rw s
 
-    pub turn-short : step ≡ Short → Made budget v₀ (recovery redo (view v₀) k) u made true
-    turn-short e =
-        let files = length (view v₀ .table .files) in
-        let p : made ≡ made + madeIn step = rw e (omega arith) in
-        rw (recovery-released redo (view v₀) k, p) (made-cut _ _
-        (crash-later redo k f (files - f) files (omega arith) (rw (ap isShort e) at one-more)))
+    pub turn-more : Turn v₀ r₀ redo k w q (f + 1)
+    turn-more = record {
+      low = omega arith;
+      high = omega arith;
+      left = λ n. t .left (rw split (made-more (λ c. all-table _ (made c)) (made-same same m) n));
+      ahead = λ c.
+          let x = t .ahead (made-going m c) in
+          let d = made c in
+          record {
+            formed = d .formed;
+            table = all-table _ d ∙ x .table;
+            own = ap (λ (b : View). b .records k) (d .seen) ∙ ap (λ (rs : ℕ → Record). rs k) (release-records redo (view v) k f (view v)) ∙ x .own;
+            headers = λ g l. ap (λ (b : View). b .headers g) (d .seen) ∙ release-other redo (view v) k f g (view v) (omega arith) ∙ x .headers g (omega arith);
+            seen = ap (λ (b : View). changedBy b later) (d .seen ∙ ap (changedBy (view v)) (same (made-going m c)))
+                ∙ sym (changed-append (releaseOf redo (view v₀) k f) later (view v)) ∙ ap (changedBy (view v)) (sym split) ∙ x .seen;
+          };
+    }
 
   -- The record, after the last file.
-  pub turn-end : length (view v₀ .table .files) < f → {u : Volume} {n : ℕ} {crashed : Bool}
-      → Made (budget - made) v (setRecord k idleRecord ∷ []) u n crashed → Made budget v₀ (recovery redo (view v₀) k) u (made + n) crashed
-  turn-end h r =
-      let e : f - 1 ≡ length (view v₀ .table .files) = omega (arith, t .high) in
-      rw (recovery-released redo (view v₀) k, ← e) (made-more _ known suits (t .run) _ r)
+  pub turn-end : length (view v₀ .table .files) < f → {u : Volume} {q : Run} → UpdatesMade v r (setRecord k idleRecord ∷ []) u q
+      → UpdatesMade v₀ r₀ (recovery redo (view v₀) k) u q × (q .crashed ≡ false → AllMade v₀ (recovery redo (view v₀) k) u)
+  turn-end h m =
+      let e : length (view v₀ .table .files) + 1 - f ≡ 0 = omega (arith, t .high) in (
+        t .left (rw e m),
+        λ c.
+            let x = t .ahead (made-going m c) in
+            let d = all-one _ (x .formed) (rw (x .table) (client .low, client .high, idle-fits (view v .table))) m c in
+            record { formed = d .formed; seen = d .seen ∙ rw e at (x .seen) },
+      )
+
+-- ------------------------------------------------------------------ what recovery leaves
+-- A header is what was set for it, if it isn't so before.
+headers-set : (h : ℕ → Header) (k : ℕ) (r : Record) (f : ℕ) (fs : List ℕ) (b : View) → (member f fs ≡ false → b .headers f ≡ h f)
+    → changedBy b (map (λ g. setHeader g (h g)) fs ++ (setRecord k r ∷ [])) .headers f ≡ h f
+headers-set h k r f [] b start = start refl
+headers-set h k r f (g ∷ gs) b start = headers-set h k r f gs (changed b (setHeader g (h g)))
+    (λ e. if-equal (λ (x : Header). x ≡ h f) f g (h g) (b .headers f) (λ q. ap h (sym q)) (λ n. start (rw (ne-eqb f g n) e)))
+
+pub recovered-header : (redo : Bool) (a : View) (k f : ℕ) → IsFile (a .table) f → a .headers f .holder ≡ k
+    → changedBy a (recovery redo a k) .headers f ≡ freed redo a k f
+unfolding recovery
+recovered-header redo a k f i e = headers-set (freed redo a k) k idleRecord f (heldFiles a k) a (λ out. no-both _ (held-member a k f i e) out)

@@ -1,16 +1,10 @@
--- The updates of recovery by the record's state, of which a known volume has three.
+-- The updates of recovery by the record's state.
 use mathlib.Core.Path.{_≡_}
 use mathlib.Core.Bool.{true, false}
 use mathlib.Core.List.{[]}
-use Prim.Native.Nat.{ℕ, _≤_}
-use borrow.Author.Tests.{leb-true}
+use Prim.Native.Nat.{ℕ}
 use Rattle.sector.specs.Contents.{isIdle}
-use Rattle.sector.specs.Sectors.{Volume}
-use Rattle.sector.proofs.ListLaws.{all-at}
-use Rattle.volume.specs.Places.{IsClient}
 use Rattle.volume.specs.Views.{View}
-use Rattle.volume.specs.Volumes.{view}
-use Rattle.volume.specs.Known.{Known}
 use Rattle.rules.specs.Recovery.{isDecided, recovery}
 use Rattle.recovery.specs.Work.{recoveryNow}
 
@@ -31,6 +25,3 @@ module _ (a : View) (k : ℕ) where
   pub now-live : isIdle (a .records k) ≡ false → recoveryNow a k ≡ recovery (isDecided a k) a k
   unfolding recoveryNow
   now-live e = rw e
-
-pub few-states : (v : Volume) → Known v → (k : ℕ) → IsClient (view v .table) k → view v .records k .state ≤ 2
-few-states v known k i = leb-true _ _ (all-at _ 0 (known .record-fits k (i .low) (i .high)))

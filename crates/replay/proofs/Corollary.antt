@@ -9,13 +9,13 @@ use Rattle.interface.specs.declared.Session.{Session}
 use Rattle.interface.specs.declared.Refusal.{Refusal}
 use Rattle.interface.specs.declared.FormatOutcome.{FormatOutcome}
 use Rattle.interface.specs.Answers.{newSession, FormatAnswer, formatDone, formatRefused}
-use Rattle.sector.specs.Lists.{if_then_else_}
+use Rattle.lists.specs.Lists.{if_then_else_}
 use Rattle.sector.specs.Contents.{Bytes, Table}
-use Rattle.sector.specs.Sectors.{Volume}
+use Rattle.volume.specs.Volumes.{Volume}
 use Rattle.volume.specs.Format.{tableFor, format}
 use Rattle.format.specs.Outcomes.{formatted}
 use Rattle.atomicity.specs.Model.{newModel}
-use Rattle.atomicity.specs.Runs.{Step, Run, started, stepped, ranOver}
+use Rattle.atomicity.specs.Runs.{Step, Configuration, started, stepped, ranOver}
 use Rattle.atomicity.specs.Transcripts.{eventOf, eventsOf, SaidAgrees}
 use Rattle.atomicity.proofs.TranscriptLaws.{transcripts-agree}
 use Rattle.replay.specs.declared.Ended.{Ended}
@@ -26,7 +26,7 @@ use Rattle.replay.specs.Replays.{Left, noRoom, ran, replayAnswerOf, left
 use Rattle.replay.proofs.BackLaws.{events-back}
 
 -- The first steps say what they say in the whole list.
-events-take : (r : Run) (xs : List Step) (n : ℕ) → eventsOf r (take n xs) ≡ take n (eventsOf r xs)
+events-take : (r : Configuration) (xs : List Step) (n : ℕ) → eventsOf r (take n xs) ≡ take n (eventsOf r xs)
 events-take r [] zero = refl
 events-take r [] (suc n) = refl
 events-take r (x ∷ xs) zero = refl
@@ -41,7 +41,7 @@ module _ (v : Volume) (T : ℕ) (l script out : Bytes) where
       (runLeft (started (format v T l .volume)) script out .volume) (runLeft (started (format v T l .volume)) script out .out)
   unfolding runLeft
   ran-claim d =
-      let r : Run = started (format v T l .volume) in
+      let r : Configuration = started (format v T l .volume) in
       let xs : List Step = steps script in
       rw (events-back r xs (drop (length (transcript (eventsOf r xs))) out) refl) (transcripts-agree v T l d xs)
 
@@ -52,7 +52,7 @@ module _ (v : Volume) (T : ℕ) (l script out : Bytes) where
       SaidAgrees (tableFor (length v) T l) newModel newSession (take n xs) (take n (eventsIn xs (runLeft r script out .out))) (ranOver r (take n xs) .volume)
   unfolding runLeft
   after-each-step d n =
-      let r : Run = started (format v T l .volume) in
+      let r : Configuration = started (format v T l .volume) in
       let xs : List Step = steps script in
       rw (events-back r xs (drop (length (transcript (eventsOf r xs))) out) refl, ← events-take r xs n) (transcripts-agree v T l d (take n xs))
 

@@ -11,11 +11,11 @@ use lib.ListN.{length, take, drop}
 use lib.Seq.{sets}
 use Rattle.interface.specs.declared.Session.{Session}
 use Rattle.sector.specs.Contents.{Bytes}
-use Rattle.sector.specs.Sectors.{Volume}
-use Rattle.listing.specs.Writes.{Wrote}
-use Rattle.listing.proofs.WritesLaws.{sets-append}
+use Rattle.volume.specs.Volumes.{Volume}
+use Rattle.text.specs.Writes.{Wrote}
+use Rattle.lists.proofs.ListLaws.{sets-append}
 use Rattle.atomicity.specs.Model.{Model, newModel}
-use Rattle.atomicity.specs.Runs.{Step, Run, stepped, ranOver}
+use Rattle.atomicity.specs.Runs.{Step, Configuration, stepped, ranOver}
 use Rattle.atomicity.specs.Transcripts.{Event, eventOf, eventsOf}
 use Rattle.commands.specs.declared.Command.{Command}
 use Rattle.commands.specs.declared.Performed.{Performed}
@@ -61,7 +61,7 @@ module _ (script : Bytes) (at n : ℕ) {v w : Volume} {s : Session} {c : Command
 -- ------------------------------------------------------------------ the steps so far
 -- The run r over all of `script`, and the buffer out₀ before it; now there are volume v and session s, `at` is the place in the
 -- script, and the transcript up to `to` is in `out`.
-pub record Going (r : Run) (script out₀ : Bytes) (v : Volume) (s : Session) (at : ℕ) (out : Bytes) (to : ℕ) : Type 0 where
+pub record Going (r : Configuration) (script out₀ : Bytes) (v : Volume) (s : Session) (at : ℕ) (out : Bytes) (to : ℕ) : Type 0 where
   pub model : Model
   pub run : ranOver r (steps script) ≡ ranOver (runOf v s model) (steps (drop at script))
   pub text : sets out₀ 0 (transcript (eventsOf r (steps script))) ≡ sets out to (transcript (eventsOf (runOf v s model) (steps (drop at script))))
@@ -70,17 +70,17 @@ pub going-start : (v : Volume) (s : Session) (m : Model) (script out : Bytes) �
 going-start v s m script out = record { model = m; run = refl; text = refl }
 
 -- A run by its parts.
-run-is : (r : Run) (w : Volume) (q : Session) → w ≡ r .volume → q ≡ r .session → r ≡ runOf w q (r .model)
+run-is : (r : Configuration) (w : Volume) (q : Session) → w ≡ r .volume → q ≡ r .session → r ≡ runOf w q (r .model)
 run-is r w q e f = rw (e, f) refl
 
 -- One step more.
-module _ {r : Run} {script out₀ : Bytes} {v : Volume} {s : Session} {at : ℕ} {out : Bytes} {to : ℕ} where
+module _ {r : Configuration} {script out₀ : Bytes} {v : Volume} {s : Session} {at : ℕ} {out : Bytes} {to : ℕ} where
   pub going-more : {w : Volume} {q : Session} {n : ℕ} {c : Bytes} {next : ℕ} → Going r script out₀ v s at out to → Whole (drop at script) n
       → ((m : Model) → IsStepped (runOf v s m) (stepIn (drop at script)) w q out to c next)
       → Going r script out₀ w q (at + n) c next
   going-more {w} {q} {n} {c} {next} g whole h =
       let x : Step = stepIn (drop at script) in
-      let a : Run = runOf v s (g .model) in
+      let a : Configuration = runOf v s (g .model) in
       let z = h (g .model) in
       let e : stepped a x ≡ runOf w q (stepped a x .model) = run-is (stepped a x) w q (z .volume) (z .session) in
       let more = steps-at script at n whole in
@@ -88,11 +88,11 @@ module _ {r : Run} {script out₀ : Bytes} {v : Volume} {s : Session} {at : ℕ}
       let d : Bytes = entryOf (eventOf a x) in
       record {
         model = stepped a x .model;
-        run = g .run ∙ ap (ranOver a) more ∙ ap (λ (y : Run). ranOver y rest) e;
+        run = g .run ∙ ap (ranOver a) more ∙ ap (λ (y : Configuration). ranOver y rest) e;
         text = g .text
             ∙ ap (λ (xs : List Step). sets out to (transcript (eventsOf a xs))) more
             ∙ sets-append d (transcript (eventsOf (stepped a x) rest)) out to
-            ∙ ap (λ (y : Run). sets (sets out to d) (to + length d) (transcript (eventsOf y rest))) e
+            ∙ ap (λ (y : Configuration). sets (sets out to d) (to + length d) (transcript (eventsOf y rest))) e
             ∙ rw (z .entry .bytes, z .entry .next);
       }
 
@@ -119,7 +119,7 @@ room-now script at n to room w h =
     let e = ap transcriptLength (steps-at script at n w) in
     omega (arith, e)
 
-pub room-then : (r : Run) (script : Bytes) (at n to next room : ℕ) → Whole (drop at script) n
+pub room-then : (r : Configuration) (script : Bytes) (at n to next room : ℕ) → Whole (drop at script) n
     → next ≡ to + length (entryOf (eventOf r (stepIn (drop at script))))
     → to + transcriptLength (steps (drop at script)) ≤ room → next + transcriptLength (steps (drop (at + n) script)) ≤ room
 room-then r script at n to next room w i h =

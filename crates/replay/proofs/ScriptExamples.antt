@@ -7,14 +7,15 @@ use Prim.Native.Nat.{ℕ}
 use native.Mathlib.Omega.{arith}
 use lib.ListN.{replicate}
 use Rattle.interface.specs.declared.Session.{Session}
-use Rattle.interface.specs.Answers.{newSession, done, crashed, refused, found, readRefused}
+use Rattle.interface.specs.Answers.{newSession, done, crashed, refused, found, queryRefused}
 use Rattle.sector.specs.Contents.{Bytes, Table}
-use Rattle.sector.specs.Sectors.{Volume, byte, padded}
-use Rattle.rules.specs.Plans.{begin, openFile, write, commit, abort}
+use Rattle.sector.specs.Sectors.{byte, padded}
+use Rattle.volume.specs.Volumes.{Volume}
+use Rattle.rules.specs.Plans.{begin, openFile, write, commit, abort, readPage}
 use Rattle.atomicity.specs.Model.{newModel}
-use Rattle.atomicity.specs.Runs.{Step, calls, reads}
+use Rattle.atomicity.specs.Runs.{Step, calls, asks}
 use Rattle.atomicity.specs.AllOrNone.{PagesAgree}
-use Rattle.atomicity.specs.Transcripts.{ofCall, ofRead, Event}
+use Rattle.atomicity.specs.Transcripts.{ofCall, ofQuery, Event}
 use Rattle.commands.specs.Commands.{stepOf}
 use Rattle.replay.specs.Scripts.{commandIn, isWhole, stepIn, stepsFrom, steps}
 use Rattle.replay.specs.Transcripts.{headBytes, entryOf, transcript, eventIn, eventsIn}
@@ -42,8 +43,8 @@ itsSteps =
     ∷ calls false (write 1 2 5 (0xAA ∷ 0xBB ∷ 0xCC ∷ [])) 6
     ∷ calls false (commit 1) 7
     ∷ calls false (abort 2) 8
-    ∷ reads true 1 2 5
-    ∷ reads false 3 4 6
+    ∷ asks true (readPage 1 2 5)
+    ∷ asks false (readPage 3 4 6)
     ∷ []
 
 script-steps : steps script ≡ itsSteps
@@ -91,8 +92,8 @@ page = replicate 256 0xA1
 
 abbrev ofReads : List Event
 ofReads =
-    record { answer = ofRead (found 300); session = active13; bytes = page; part = page }
-    ∷ record { answer = ofRead (readRefused 8); session = active13; bytes = []; part = [] }
+    record { answer = ofQuery (found 300); session = active13; bytes = page; part = page }
+    ∷ record { answer = ofQuery (queryRefused 8); session = active13; bytes = []; part = [] }
     ∷ []
 
 reads-told : transcript ofReads
@@ -102,14 +103,14 @@ reads-told = refl
 
 -- What is read back, with other bytes behind it; the two pages of a read may differ there.
 abbrev five : List Step
-five = calls false (begin 1) 9 ∷ calls false (begin 1) 9 ∷ calls false (begin 1) 9 ∷ reads false 1 2 3 ∷ reads false 1 2 3 ∷ []
+five = calls false (begin 1) 9 ∷ calls false (begin 1) 9 ∷ calls false (begin 1) 9 ∷ asks false (readPage 1 2 3) ∷ asks false (readPage 1 2 3) ∷ []
 
 told-back : eventsIn five (transcript ofCalls ++ (transcript ofReads ++ (1 ∷ 2 ∷ 3 ∷ []))) ≡ ofCalls ++ ofReads
 unfolding entryOf headBytes padded eventIn
 told-back = refl
 
-two-pages : eventsIn (reads false 1 2 3 ∷ []) (3 ∷ 6 ∷ 0 ∷ 0 ∷ (page ++ replicate 256 0xB2))
-    ≡ record { answer = ofRead (found 6); session = newSession; bytes = page; part = replicate 256 0xB2 } ∷ []
+two-pages : eventsIn (asks false (readPage 1 2 3) ∷ []) (3 ∷ 6 ∷ 0 ∷ 0 ∷ (page ++ replicate 256 0xB2))
+    ≡ record { answer = ofQuery (found 6); session = newSession; bytes = page; part = replicate 256 0xB2 } ∷ []
 unfolding eventIn
 two-pages = refl
 

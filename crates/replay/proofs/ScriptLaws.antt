@@ -9,10 +9,10 @@ use borrow.Author.Tests.{le-leb, lt-leb, leb-true}
 use lib.Dec.{leb}
 use lib.ListN.{length, take, drop, length-drop}
 use lib.Seq.{drop-drop, getD-drop}
-use Rattle.sector.specs.Lists.{if_then_else_}
+use Rattle.lists.specs.Lists.{if_then_else_}
 use Rattle.sector.specs.Contents.{Bytes}
 use Rattle.sector.specs.Sectors.{byte, word}
-use Rattle.sector.proofs.ListLaws.{and-left, and-right}
+use Rattle.lists.proofs.ListLaws.{and-left, and-right}
 use Rattle.atomicity.specs.Runs.{Step}
 use Rattle.commands.specs.Commands.{stepOf}
 use Rattle.replay.specs.Scripts.{commandIn, stepSize, isWhole, stepIn, stepsFrom, steps}

@@ -9,23 +9,25 @@ use lib.Seq.{sets, sets-eq, length-sets, getD-drop}
 use Rattle.interface.specs.declared.Session.{Session}
 use Rattle.interface.specs.declared.Refusal.{Refusal}
 use Rattle.interface.specs.declared.Outcome.{Outcome}
-use Rattle.interface.specs.declared.ReadOutcome.{ReadOutcome}
-use Rattle.interface.specs.Answers.{sessionByte, Answer, done, crashed, refused, ReadAnswer, found, readRefused, refusalNumber, answerOf, readAnswerOf}
+use Rattle.interface.specs.declared.QueryOutcome.{QueryOutcome}
+use Rattle.interface.specs.Answers.{sessionByte, Answer, done, crashed, refused, QueryAnswer, found, queryRefused, refusalNumber, answerOf, queryAnswerOf}
 use Rattle.sector.specs.Contents.{Bytes}
-use Rattle.sector.specs.Sectors.{Volume, sector, byte, word, padded, zeroSector}
+use Rattle.sector.specs.Sectors.{sector, byte, word, padded, zeroSector}
+use Rattle.volume.specs.Volumes.{Volume}
 use Rattle.sector.proofs.CodecLaws.{padded-length}
 use Rattle.sector.proofs.SectorLaws.{sector-length}
-use Rattle.calls.proofs.PageLaws.{Inside, read-inside}
-use Rattle.rules.specs.Calls.{read, partOf, readPart}
-use Rattle.listing.specs.Writes.{Wrote, atFront}
+use Rattle.calls.proofs.PageLaws.{Inside, query-inside}
+use Rattle.rules.specs.Plans.{Query}
+use Rattle.rules.specs.Calls.{query, partOf, queryPart}
+use Rattle.text.specs.Writes.{Wrote, atFront}
 use Rattle.atomicity.specs.Model.{Model}
-use Rattle.atomicity.specs.Runs.{Step, calls, reads, Run, given, stepped}
-use Rattle.atomicity.specs.Transcripts.{StepAnswer, ofCall, ofRead, eventOf, eventsOf}
+use Rattle.atomicity.specs.Runs.{Step, calls, asks, Configuration, given, stepped}
+use Rattle.atomicity.specs.Transcripts.{StepAnswer, ofCall, ofQuery, eventOf, eventsOf}
 use Rattle.commands.specs.declared.Action.{Action}
 use Rattle.commands.specs.declared.Command.{Command}
 use Rattle.commands.specs.declared.Told.{Told}
 use Rattle.commands.specs.declared.Performed.{Performed}
-use Rattle.commands.specs.Commands.{stepBy, stepOf, toldOf, runOf, IsPerformed}
+use Rattle.commands.specs.Commands.{queryOf, stepBy, stepOf, toldOf, runOf, IsPerformed}
 use Rattle.commands.proofs.CommandLaws.{step-by}
 use Rattle.replay.specs.Scripts.{actionOf, commandIn, stepIn}
 use Rattle.replay.specs.Transcripts.{headBytes, answerBytes, entryOf, transcript, entryLength, transcriptLength}
@@ -40,33 +42,33 @@ pub answer-length : (x : StepAnswer) (s : Session) → length (answerBytes x s) 
 answer-length (ofCall (done n)) s = head-length 0 n s
 answer-length (ofCall (crashed n)) s = head-length 1 n s
 answer-length (ofCall (refused n)) s = head-length 2 n s
-answer-length (ofRead (found n)) s = head-length 3 n s
-answer-length (ofRead (readRefused n)) s = head-length 2 n s
+answer-length (ofQuery (found n)) s = head-length 3 n s
+answer-length (ofQuery (queryRefused n)) s = head-length 2 n s
 
-part-length : (v : Volume) (x : ReadAnswer) → length (partOf v x) ≤ 256
+part-length : (v : Volume) (x : QueryAnswer) → length (partOf v x) ≤ 256
 unfolding sector
 part-length v (found n) = omega (arith, length-take 256 (drop (256 * n) v))
-part-length v (readRefused n) = omega arith
+part-length v (queryRefused n) = omega arith
 
 pub call-length : (x : Answer) (s : Session) (b d : Bytes)
     → length (entryOf (record { answer = ofCall x; session = s; bytes = b; part = d })) ≡ 4
 unfolding entryOf
 call-length x s b d = length-append (answerBytes (ofCall x) s) [] ∙ omega (arith, answer-length (ofCall x) s)
 
-pub read-length : (x : ReadAnswer) (s : Session) (b d : Bytes) → length b ≤ 256 → length d ≤ 256
-    → length (entryOf (record { answer = ofRead x; session = s; bytes = b; part = d })) ≡ 516
+pub query-length : (x : QueryAnswer) (s : Session) (b d : Bytes) → length b ≤ 256 → length d ≤ 256
+    → length (entryOf (record { answer = ofQuery x; session = s; bytes = b; part = d })) ≡ 516
 unfolding entryOf
-read-length x s b d h g =
-    length-append (answerBytes (ofRead x) s) (padded b ++ padded d)
-    ∙ omega (arith, answer-length (ofRead x) s, length-append (padded b) (padded d), padded-length b h, padded-length d g)
+query-length x s b d h g =
+    length-append (answerBytes (ofQuery x) s) (padded b ++ padded d)
+    ∙ omega (arith, answer-length (ofQuery x) s, length-append (padded b) (padded d), padded-length b h, padded-length d g)
 
-pub entry-length : (r : Run) (x : Step) → length (entryOf (eventOf r x)) ≡ entryLength x
+pub entry-length : (r : Configuration) (x : Step) → length (entryOf (eventOf r x)) ≡ entryLength x
 entry-length r (calls crash c budget) = call-length _ _ [] []
-entry-length r (reads crash k f p) =
-    let a = read (r .volume) (given crash (r .session)) k f p in
-    read-length a (r .session) (partOf (r .volume) a) (partOf (r .volume) a) (part-length (r .volume) a) (part-length (r .volume) a)
+entry-length r (asks crash q) =
+    let a = query (r .volume) (given crash (r .session)) q in
+    query-length a (r .session) (partOf (r .volume) a) (partOf (r .volume) a) (part-length (r .volume) a) (part-length (r .volume) a)
 
-pub transcript-length : (r : Run) (xs : List Step) → length (transcript (eventsOf r xs)) ≡ transcriptLength xs
+pub transcript-length : (r : Configuration) (xs : List Step) → length (transcript (eventsOf r xs)) ≡ transcriptLength xs
 transcript-length r [] = refl
 transcript-length r (x ∷ xs) =
     length-append (entryOf (eventOf r x)) (transcript (eventsOf (stepped r x) xs))
@@ -89,34 +91,34 @@ padded-page l h =
 noted-call : (v : Volume) (s : Session) (c : Command) (t : Told) (q : Session) (x : Answer) → toldOf t ≡ ofCall x
     → noted v s c t q ≡ record { answer = ofCall x; session = q; bytes = []; part = [] }
 noted-call v s c (Told.Call o) q x e = rw e
-noted-call v s c (Told.Read o) q x e = cc
+noted-call v s c (Told.Query o) q x e = cc
 
-noted-read : (v : Volume) (s : Session) (c : Command) (t : Told) (q : Session) (x : ReadAnswer) → toldOf t ≡ ofRead x
+noted-query : (v : Volume) (s : Session) (c : Command) (t : Told) (q : Session) (x : QueryAnswer) → toldOf t ≡ ofQuery x
     → noted v s c t q ≡ record {
-      answer = ofRead x;
+      answer = ofQuery x;
       session = q;
       bytes = partOf v x;
-      part = readPart v (given (c .crash) s) (c .client) (c .file) (c .page);
+      part = queryPart v (given (c .crash) s) (queryOf c);
     }
-noted-read v s c (Told.Read o) q x e =
-    let a : readAnswerOf o ≡ x = cc in
+noted-query v s c (Told.Query o) q x e =
+    let a : queryAnswerOf o ≡ x = cc in
     rw a
-noted-read v s c (Told.Call o) q x e = cc
+noted-query v s c (Told.Call o) q x e = cc
 
 is-answer : (v : Volume) (s : Session) (c : Command) (t : Told)
-    → toldOf t ≡ ofRead (read v (given (c .crash) s) (c .client) (c .file) (c .page)) → IsAnswer v s c t
-is-answer v s c (Told.Read o) e = cc
+    → toldOf t ≡ ofQuery (query v (given (c .crash) s) (queryOf c)) → IsAnswer v s c t
+is-answer v s c (Told.Query o) e = cc
 is-answer v s c (Told.Call o) e = tt
 
 any-call : (v : Volume) (s : Session) (c : Command) (t : Told) (x : Answer) → toldOf t ≡ ofCall x → IsAnswer v s c t
 any-call v s c (Told.Call o) x e = tt
-any-call v s c (Told.Read o) x e = absurd (clash (cc))
+any-call v s c (Told.Query o) x e = absurd (clash (cc))
   where
     clash : _≡_ {A = ℕ} 0 1 → ⊥
     clash h = omega arith
 
--- What is noted of a command that was performed is what its step says, and the answer is its read's.
-pub record IsNoted (r : Run) (x : Step) (w : Volume) (s : Session) (c : Command) (p : Performed) : Type 0 where
+-- What is noted of a command that was performed is what its step says, and the answer is the one to what it asks.
+pub record IsNoted (r : Configuration) (x : Step) (w : Volume) (s : Session) (c : Command) (p : Performed) : Type 0 where
   pub event : noted w s c (p .told) (p .session) ≡ eventOf r x
   pub answer : IsAnswer w s c (p .told)
 
@@ -129,7 +131,7 @@ module _ (v w : Volume) (s : Session) (m : Model) (c : Command) (d : Bytes) (p :
   by-action Action.Commit h = record { event = noted-call w s c (p .told) (p .session) _ (h .answer) ∙ rw (h .session); answer = any-call w s c (p .told) _ (h .answer) }
   by-action Action.Abort h = record { event = noted-call w s c (p .told) (p .session) _ (h .answer) ∙ rw (h .session); answer = any-call w s c (p .told) _ (h .answer) }
   by-action Action.Read h = record {
-    event = noted-read w s c (p .told) (p .session) _ (h .answer) ∙ rw (h .session, h .volume);
+    event = noted-query w s c (p .told) (p .session) _ (h .answer) ∙ rw (h .session, h .volume);
     answer = is-answer w s c (p .told) (rw (h .volume) (h .answer));
   }
 
@@ -146,12 +148,12 @@ module _ (v : Volume) (s : Session) (c : Command) (t : Told) (q : Session) where
   pub call-room : (o : Outcome) → t ≡ Told.Call o → length (entryOf (noted v s c t q)) ≡ 4
   call-room o e = rw e (call-length (answerOf o) q [] [])
 
-  pub read-room : (o : ReadOutcome) → t ≡ Told.Read o → length (entryOf (noted v s c t q)) ≡ 516
-  read-room o e = rw e (read-length (readAnswerOf o) q _ _ (part-length v (readAnswerOf o)) (part-length v (read v (given (c .crash) s) (c .client) (c .file) (c .page))))
+  pub query-room : (o : QueryOutcome) → t ≡ Told.Query o → length (entryOf (noted v s c t q)) ≡ 516
+  query-room o e = rw e (query-length (queryAnswerOf o) q _ _ (part-length v (queryAnswerOf o)) (part-length v (query v (given (c .crash) s) (queryOf c))))
 
-  pub read-answer : (o : ReadOutcome) → t ≡ Told.Read o → IsAnswer v s c t
-      → readAnswerOf o ≡ read v (given (c .crash) s) (c .client) (c .file) (c .page)
-  read-answer o e a = rw e at a
+  pub query-answer : (o : QueryOutcome) → t ≡ Told.Query o → IsAnswer v s c t
+      → queryAnswerOf o ≡ query v (given (c .crash) s) (queryOf c)
+  query-answer o e a = rw e at a
 
 by-length : (a : Action) (c : Command) (d : Bytes) → actionLength a ≡ entryLength (stepBy a c d)
 by-length Action.Begin c d = refl
@@ -190,26 +192,26 @@ wrote-length {b} {d} {c} {at} w = ap length (w .bytes) ∙ length-sets b at d
 pub behind-head : (k n : ℕ) (s : Session) {b c : Bytes} {at m : ℕ} → Wrote b at (headBytes k n s) c m → m ≡ at + 4
 behind-head k n s {b} {c} {at} w = w .next ∙ ap (λ (i : ℕ). at + i) (head-length k n s)
 
--- A read's entry, by its outcome.
-module _ (v : Volume) (s : Session) (c : Command) (o : ReadOutcome) (q : Session)
-    (a : readAnswerOf o ≡ read v (given (c .crash) s) (c .client) (c .file) (c .page)) where
-  pub refused-entry : (r : Refusal) → o ≡ ReadOutcome.Refused r
-      → headBytes 2 (refusalNumber r) q ++ (padded [] ++ padded []) ≡ entryOf (noted v s c (Told.Read o) q)
+-- A question's entry, by its outcome.
+module _ (v : Volume) (s : Session) (c : Command) (o : QueryOutcome) (q : Session)
+    (a : queryAnswerOf o ≡ query v (given (c .crash) s) (queryOf c)) where
+  pub refused-entry : (r : Refusal) → o ≡ QueryOutcome.Refused r
+      → headBytes 2 (refusalNumber r) q ++ (padded [] ++ padded []) ≡ entryOf (noted v s c (Told.Query o) q)
   unfolding entryOf
   refused-entry r e = rw (← a, e)
 
-  pub inside-found : (n : ℕ) → o ≡ ReadOutcome.Sector n → (256 * n + 256 ≤ length v) × (n ≤ 65536)
-  inside-found n e = subst (Inside v) (sym a ∙ ap readAnswerOf e) (read-inside v (given (c .crash) s) (c .client) (c .file) (c .page))
+  pub inside-found : (n : ℕ) → o ≡ QueryOutcome.Sector n → (256 * n + 256 ≤ length v) × (n ≤ 65536)
+  inside-found n e = subst (Inside v) (sym a ∙ ap queryAnswerOf e) (query-inside v (given (c .crash) s) (queryOf c))
 
-  pub found-entry : (n : ℕ) → o ≡ ReadOutcome.Sector n
-      → headBytes 3 n q ++ (sector v n ++ readPart v (given (c .crash) s) (c .client) (c .file) (c .page)) ≡ entryOf (noted v s c (Told.Read o) q)
+  pub found-entry : (n : ℕ) → o ≡ QueryOutcome.Sector n
+      → headBytes 3 n q ++ (sector v n ++ queryPart v (given (c .crash) s) (queryOf c)) ≡ entryOf (noted v s c (Told.Query o) q)
   unfolding entryOf
   found-entry n e =
       let size : length (sector v n) ≡ 256 = sector-length v n (inside-found n e .0) in
       rw (← a, e, padded-page (sector v n) size)
 
-pub shown-length : (v : Volume) (s : Session) (k f p : ℕ) → length (readPart v s k f p) ≤ 256
-shown-length v s k f p = part-length v (read v s k f p)
+pub shown-length : (v : Volume) (s : Session) (q : Query) → length (queryPart v s q) ≤ 256
+shown-length v s q = part-length v (query v s q)
 
 -- Nothing is padded to zeros.
 pub zeros-padded : padded [] ≡ zeroSector

@@ -5,13 +5,13 @@ use lib.Dec.{leb}
 use lib.ListN.{length}
 use Rattle.interface.specs.declared.Session.{Session}
 use Rattle.interface.specs.Answers.{newSession, refusalNumber, FormatAnswer, formatDone, formatRefused}
-use Rattle.sector.specs.Lists.{if_then_else_}
+use Rattle.lists.specs.Lists.{if_then_else_}
 use Rattle.sector.specs.Contents.{Bytes, Table}
-use Rattle.sector.specs.Sectors.{Volume}
+use Rattle.volume.specs.Volumes.{Volume}
 use Rattle.volume.specs.Format.{Formatted, format}
-use Rattle.listing.specs.Writes.{atFront}
+use Rattle.text.specs.Writes.{atFront}
 use Rattle.atomicity.specs.Model.{newModel}
-use Rattle.atomicity.specs.Runs.{Run, started, ranOver}
+use Rattle.atomicity.specs.Runs.{Configuration, started, ranOver}
 use Rattle.atomicity.specs.Transcripts.{eventsOf, SaidAgrees}
 use Rattle.replay.specs.declared.Ended.{Ended}
 use Rattle.replay.specs.declared.Replayed.{Replayed}
@@ -47,13 +47,13 @@ unfoldable pub hasRoom : (script : Bytes) → (room : ℕ) → Bool
 hasRoom script room = leb (transcriptLength (steps script)) room
 
 -- The script is run: volume and session are those after its steps, and the transcript stands at the front of the buffer.
-unfoldable pub runLeft : Run → (script : Bytes) → (out : Bytes) → Left
+unfoldable pub runLeft : Configuration → (script : Bytes) → (out : Bytes) → Left
 runLeft r script out =
     let q = ranOver r (steps script) in
     record { answer = ran; session = q .session; volume = q .volume; out = atFront (transcript (eventsOf r (steps script))) out }
 
 -- Nothing is run where the transcript has no room.
-abbrev pub replayed : Run → (script : Bytes) → (out : Bytes) → Left
+abbrev pub replayed : Configuration → (script : Bytes) → (out : Bytes) → Left
 replayed r script out =
     if hasRoom script (length out) then runLeft r script out
     else record { answer = noRoom; session = r .session; volume = r .volume; out = out }

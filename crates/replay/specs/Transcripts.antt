@@ -7,12 +7,12 @@ use Prim.Native.Nat.{ℕ, _+_}
 use lib.Dec.{eqb}
 use lib.ListN.{take, drop}
 use Rattle.interface.specs.declared.Session.{Session}
-use Rattle.interface.specs.Answers.{sessionOf, sessionByte, Answer, done, crashed, refused, ReadAnswer, found, readRefused}
-use Rattle.sector.specs.Lists.{if_then_else_}
+use Rattle.interface.specs.Answers.{sessionOf, sessionByte, Answer, done, crashed, refused, QueryAnswer, found, queryRefused}
+use Rattle.lists.specs.Lists.{if_then_else_}
 use Rattle.sector.specs.Contents.{Bytes}
 use Rattle.sector.specs.Sectors.{byte, word, wordBytes, padded}
-use Rattle.atomicity.specs.Runs.{Step, calls, reads}
-use Rattle.atomicity.specs.Transcripts.{StepAnswer, ofCall, ofRead, Event}
+use Rattle.atomicity.specs.Runs.{Step, calls, asks}
+use Rattle.atomicity.specs.Transcripts.{StepAnswer, ofCall, ofQuery, Event}
 
 -- The four bytes.
 unfoldable pub headBytes : (kind : ℕ) → (number : ℕ) → Session → Bytes
@@ -23,13 +23,13 @@ abbrev pub answerBytes : StepAnswer → Session → Bytes
 answerBytes (ofCall (done n)) s = headBytes 0 n s
 answerBytes (ofCall (crashed n)) s = headBytes 1 n s
 answerBytes (ofCall (refused n)) s = headBytes 2 n s
-answerBytes (ofRead (found n)) s = headBytes 3 n s
-answerBytes (ofRead (readRefused n)) s = headBytes 2 n s
+answerBytes (ofQuery (found n)) s = headBytes 3 n s
+answerBytes (ofQuery (queryRefused n)) s = headBytes 2 n s
 
--- What a read shows.
+-- What a question shows.
 abbrev pub pageBytes : StepAnswer → (bytes : Bytes) → (part : Bytes) → Bytes
 pageBytes (ofCall x) bytes part = []
-pageBytes (ofRead x) bytes part = padded bytes ++ padded part
+pageBytes (ofQuery x) bytes part = padded bytes ++ padded part
 
 -- The entry of what a step said.
 unfoldable pub entryOf : Event → Bytes
@@ -43,7 +43,7 @@ transcript (e ∷ es) = entryOf e ++ transcript es
 -- The length of a step's entry.
 abbrev pub entryLength : Step → ℕ
 entryLength (calls crash c budget) = 4
-entryLength (reads crash k f p) = 516
+entryLength (asks crash q) = 516
 
 -- The length of the transcript of these steps, whatever they say.
 abbrev pub transcriptLength : List Step → ℕ
@@ -55,14 +55,14 @@ transcriptLength (x ∷ xs) = entryLength x + transcriptLength xs
 abbrev pub answerIn : (kind : ℕ) → (number : ℕ) → Answer
 answerIn kind n = if eqb kind 0 then done n else if eqb kind 1 then crashed n else refused n
 
--- A read's answer.
-abbrev pub readAnswerIn : (kind : ℕ) → (number : ℕ) → ReadAnswer
-readAnswerIn kind n = if eqb kind 3 then found n else readRefused n
+-- A question's answer.
+abbrev pub queryAnswerIn : (kind : ℕ) → (number : ℕ) → QueryAnswer
+queryAnswerIn kind n = if eqb kind 3 then found n else queryRefused n
 
--- What a read showed: nothing where it was refused.
-abbrev pub shownIn : ReadAnswer → Bytes → Bytes
+-- What a question showed: nothing where it was refused.
+abbrev pub shownIn : QueryAnswer → Bytes → Bytes
 shownIn (found n) d = d
-shownIn (readRefused n) d = []
+shownIn (queryRefused n) d = []
 
 -- What the entry at the front says of its step.
 unfoldable pub eventIn : Step → Bytes → Event
@@ -72,10 +72,10 @@ eventIn (calls crash c budget) l = record {
   bytes = [];
   part = [];
 }
-eventIn (reads crash k f p) l =
-    let x = readAnswerIn (byte l 0) (word l 1) in
+eventIn (asks crash q) l =
+    let x = queryAnswerIn (byte l 0) (word l 1) in
     record {
-      answer = ofRead x;
+      answer = ofQuery x;
       session = sessionOf (byte l 3);
       bytes = shownIn x (take 256 (drop 4 l));
       part = shownIn x (take 256 (drop 260 l));

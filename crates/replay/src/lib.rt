@@ -1,5 +1,6 @@
-// Scripts of calls as bytes, run through the calls themselves, with a transcript of what every step said. `format_and_replay` has
-// all or none in its contract, as a claim about nothing but the script, the transcript and the volume that is left.
+// Scripts of calls as bytes, run through the calls themselves, with a transcript of what every step said.
+// `format_and_replay` has all or none in its contract, as a claim about nothing but the script, the transcript and the
+// volume that is left.
 mod run;
 mod steps;
 mod transcript;
@@ -20,13 +21,13 @@ ghost use Rattle.replay.specs.Replays.{replayAnswerOf, leftBy, replayed,
 pub enum Ended {
     // The transcript has no room in the buffer. Nothing was run, and nothing changed.
     NoRoom,
-    // The array can't be formatted so. Nothing changed.
+    // Format was refused. Nothing changed.
     NotFormatted(Refusal),
     // Every step was performed.
     Ran,
 }
 
-// What a replay hands back beside volume and transcript: the session is the one last handed back.
+// What a replay hands back besides volume and transcript: the session is the one last handed back.
 pub struct Replayed {
     pub ended: Ended,
     pub session: Session,
@@ -42,9 +43,10 @@ fn hand_back(e: Ended, s: Session) -> Replayed
     }
 }
 
-// Performs all steps of the script, in order, and writes what each said to the front of `out`. It is wrong to read a step that
-// isn't whole, to leave a read out, and to run a part of a script whose transcript doesn't fit. The contract is for every
-// model, since no byte depends on it.
+// Performs all steps of the script, in order, and writes what each said to the front of `out`. The contract is for
+// every model, since no byte depends on it. Ruled out: a step performed that isn't whole; a whole step left out
+// (`must-fail/last_step_left_out`), be it a read; a script run whose transcript doesn't fit
+// (`must-fail/room_for_calls_only`).
 pub fn replay(v: &mut [u8], s: Session, script: &[u8], out: &mut [u8]) -> Replayed
     ensures { λ r. ⌜ ((m : Model) → leftBy r (now (v .exit)) (now (out .exit)) ≡ replayed (runOf (now (v .entry)) s m) (now (script .entry)) (now (out .entry))) ⌝ }
 {
@@ -54,8 +56,8 @@ pub fn replay(v: &mut [u8], s: Session, script: &[u8], out: &mut [u8]) -> Replay
     hand_back(Ended::Ran, run_steps(v, s, script, out))
 }
 
-// Formats the array and replays the script on it. If it ran, then all or none: fed with the script and the transcript, the model
-// shows what every read showed, and its pages are the decided content of the volume.
+// Formats the array and replays the script on it. If it ran, then all or none holds: fed with the script and the
+// transcript, the model shows what every read showed, and its pages are the decided content of the volume.
 pub fn format_and_replay(
     v: &mut [u8],
     clients: u8,

@@ -14,7 +14,7 @@ ghost use Rattle.replay.specs.Transcripts.{entryLength, transcriptLength
 ghost use Rattle.replay.specs.Replays.{runLeft, ran};
 ghost use Rattle.replay.specs.Walks.{stepLength, IsStepped};
 
-// What a step leaves beside the volume: the session last handed back, and the place behind its entry.
+// What a step leaves besides the volume: the session last handed back, and the position after its entry.
 struct Stepped {
     session: Session,
     next: usize,

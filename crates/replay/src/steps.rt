@@ -1,7 +1,7 @@
 // The steps of a script: where each ends, its command, and whether the transcript of all of them has room.
 use commands::Action;
 use commands::Command;
-use sector::size;
+use sector::wide;
 ghost use mathlib.Core.Path.{_≡_};
 ghost use mathlib.Core.Bool.{not};
 ghost use Prim.Native.Nat.{_+_, _≤_};
@@ -23,7 +23,7 @@ pub fn step_length(script: &[u8], at: usize) -> usize
     if left < HEAD {
         return 0;
     }
-    let n = HEAD + (size(script[at + 6]) + 256 * size(script[at + 7]));
+    let n = HEAD + (wide(script[at + 6]) + 256 * wide(script[at + 7]));
     if left < n {
         return 0;
     }

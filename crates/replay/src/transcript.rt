@@ -1,23 +1,24 @@
-// The entries of a transcript, each written at a place of the buffer. What is handed back is the place behind it.
+// The entries of a transcript, each written at a position of the buffer. What is handed back is the position after it.
 use commands::Command;
 use commands::Told;
 use interface::Outcome;
-use interface::ReadOutcome;
+use interface::QueryOutcome;
 use interface::Session;
-use listing::put;
 use sector::low;
-use sector::size;
+use sector::wide;
+use text::put;
 ghost use mathlib.Core.Path.{_≡_};
 ghost use mathlib.Core.List.{[], _++_};
 ghost use Prim.Native.Nat.{_+_, _≤_, _<_};
 ghost use lib.ListN.{length};
-ghost use Rattle.interface.specs.Answers.{answerOf, readAnswerOf};
+ghost use Rattle.interface.specs.Answers.{answerOf, queryAnswerOf};
 ghost use Rattle.sector.specs.Sectors.{padded};
-ghost use Rattle.rules.specs.Calls.{read};
-ghost use Rattle.listing.specs.Writes.{Wrote};
+ghost use Rattle.rules.specs.Calls.{query};
+ghost use Rattle.text.specs.Writes.{Wrote};
 ghost use Rattle.atomicity.specs.Runs.{given};
 ghost use Rattle.atomicity.specs.Transcripts.{ofCall};
 ghost use Rattle.commands.specs.declared.Told.{Told};
+ghost use Rattle.commands.specs.Commands.{queryOf};
 ghost use Rattle.replay.specs.Transcripts.{headBytes, answerBytes, entryOf};
 ghost use Rattle.replay.specs.Walks.{noted, IsAnswer};
 
@@ -39,13 +40,13 @@ fn put_outcome(out: &mut [u8], at: usize, o: Outcome, s: Session) -> usize
     ensures { λ r. ⌜ Wrote (now (out .entry)) at (answerBytes (ofCall (answerOf o)) s) (now (out .exit)) r ⌝ }
 {
     match o {
-        Outcome::Done(n) => put_head(out, at, 0, size(n), s),
-        Outcome::Crashed(n) => put_head(out, at, 1, size(n), s),
-        Outcome::Refused(r) => put_head(out, at, 2, size(interface::number(r)), s),
+        Outcome::Done(n) => put_head(out, at, 0, wide(n), s),
+        Outcome::Crashed(n) => put_head(out, at, 1, wide(n), s),
+        Outcome::Refused(r) => put_head(out, at, 2, wide(interface::number(r)), s),
     }
 }
 
-// Two pages of zeros, where a read showed nothing.
+// Two pages of zeros, where a question showed nothing.
 fn put_nothing(out: &mut [u8], at: usize) -> usize
     requires { ⌜ at + 512 ≤ length (now out) ⌝ }
     ensures { λ r. ⌜ Wrote (now (out .entry)) at (padded [] ++ padded []) (now (out .exit)) r ⌝ }
@@ -55,34 +56,34 @@ fn put_nothing(out: &mut [u8], at: usize) -> usize
     put(out, next, &zeros)
 }
 
-// A number of a sector for sums.
-fn wide(n: u16) -> usize
+// The number of a sector, widened for sums.
+fn wide_sector(n: u16) -> usize
     ensures { λ r. ⌜ (r ≡ n) × (r < 65536) ⌝ }
 {
     n as usize
 }
 
-// A read's answer, the bytes of the sector answered, and the part handed back.
-fn put_read(
+// A question's answer, the bytes of the sector answered, and the part handed back.
+fn put_query(
     v: &[u8],
     s: Session,
     c: Command,
-    o: ReadOutcome,
+    o: QueryOutcome,
     q: Session,
     out: &mut [u8],
     at: usize,
 ) -> usize
-    requires { ⌜ (at + 516 ≤ length (now out)) × (readAnswerOf o ≡ read (now v) (given (c .crash) s) (c .client) (c .file) (c .page)) ⌝ }
-    ensures { λ r. ⌜ Wrote (now (out .entry)) at (entryOf (noted (now (v .entry)) s c (Told.Read o) q)) (now (out .exit)) r ⌝ }
+    requires { ⌜ (at + 516 ≤ length (now out)) × (queryAnswerOf o ≡ query (now v) (given (c .crash) s) (queryOf c)) ⌝ }
+    ensures { λ r. ⌜ Wrote (now (out .entry)) at (entryOf (noted (now (v .entry)) s c (Told.Query o) q)) (now (out .exit)) r ⌝ }
 {
     match o {
-        ReadOutcome::Refused(r) => {
-            let next = put_head(out, at, 2, size(interface::number(r)), q);
+        QueryOutcome::Refused(r) => {
+            let next = put_head(out, at, 2, wide(interface::number(r)), q);
             put_nothing(out, next)
         }
-        ReadOutcome::Sector(n) => {
-            let next = put_head(out, at, 3, wide(n), q);
-            let behind = put(out, next, sector::part(v, wide(n)));
+        QueryOutcome::Sector(n) => {
+            let next = put_head(out, at, 3, wide_sector(n), q);
+            let behind = put(out, next, sector::part(v, wide_sector(n)));
             put(out, behind, commands::page(v, s, c))
         }
     }
@@ -103,6 +104,6 @@ pub fn put_entry(
 {
     match told {
         Told::Call(o) => put_outcome(out, at, o, q),
-        Told::Read(o) => put_read(v, s, c, o, q, out, at),
+        Told::Query(o) => put_query(v, s, c, o, q, out, at),
     }
 }

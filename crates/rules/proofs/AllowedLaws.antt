@@ -3,30 +3,28 @@ use mathlib.Core.Path.{_≡_, refl}
 use mathlib.Core.Bool.{Bool, true, false, not, _&&_, _||_}
 use mathlib.Core.List.{List, [], _∷_}
 use mathlib.Core.Logic.{_≢_}
+use mathlib.Core.Option.{Option, none, some}
 use Prim.Native.Nat.{ℕ, _≤_, _<_}
 use native.Mathlib.Omega.{arith}
 use borrow.Author.Tests.{eqb-true, eq-eqb, ne-eqb, leb-true, le-leb, ltb-true, not-false}
-use lib.Dec.{eqb, leb}
+use lib.Dec.{eqb, leb, ltb}
 use lib.ListN.{length}
 use Rattle.interface.specs.declared.Session.{Session}
-use Rattle.sector.specs.Lists.{first, every}
+use Rattle.lists.specs.Lists.{first, every}
 use Rattle.sector.specs.Contents.{Bytes, Entry}
 use Rattle.sector.specs.Entries.{forFile}
-use Rattle.sector.specs.Sectors.{Volume}
-use Rattle.sector.proofs.ListLaws.{or-right, all-nil, all-cons, all-at, every-from, every-all}
-use Rattle.sector.proofs.CaseLaws.{by-test, by-equal}
-use Rattle.sector.proofs.SearchLaws.{or-true, every-implies, first-none}
+use Rattle.lists.proofs.ListLaws.{and-left, and-right, or-right, all-nil, all-cons, all-at, every-at, every-from, every-all}
+use Rattle.lists.proofs.CaseLaws.{by-test, by-equal, if-test}
+use Rattle.lists.proofs.SearchLaws.{or-true, every-implies, first-none}
 use Rattle.volume.specs.Places.{isClient, isFile, fileAt}
 use Rattle.volume.specs.Views.{View}
 use Rattle.volume.specs.Lawful.{lawful}
-use Rattle.volume.specs.Volumes.{view}
-use Rattle.volume.specs.Sound.{sound}
 use Rattle.volume.proofs.PlaceLaws.{IsFile, client-of, file-of}
-use Rattle.volume.proofs.LawfulLaws.{HeaderFacts, Lawful, lawful-facts}
+use Rattle.volume.proofs.LawfulLaws.{RecordFacts, HeaderFacts, Lawful, lawful-facts, record-facts, entry-facts}
 use Rattle.rules.specs.Sessions.{holds, isActive, markFits, sessionFits}
 use Rattle.rules.specs.Recovery.{isDecided}
-use Rattle.rules.specs.Plans.{Call, begin, openFile, write, commit, abort, freeSlots, heldByOrphan}
-use Rattle.rules.specs.Refusals.{heldByOther, noPage, noEntry, tests, readTests}
+use Rattle.rules.specs.Plans.{Call, begin, openFile, write, commit, abort, Query, readPage, entryFor, slotFor, freeSlots, heldByOrphan}
+use Rattle.rules.specs.Refusals.{heldByOther, isNewPage, pageMissing, tests, queryTests}
 
 -- ------------------------------------------------------------------ sessions
 -- Client j is marked.
@@ -53,12 +51,11 @@ running-undecided r = rw (r .state)
 pub running-foreign : {a : View} {j : ℕ} → Running a j → (f : ℕ) → a .headers f .holder ≢ j
     → (t : Entry → Bool) → every (λ e. not (forFile f e && t e)) (a .records j .entries) ≡ true
 running-foreign {a} {j} r f n t =
-    every-implies (λ e. eqb (a .headers (e .file) .holder) j) (λ e. not (forFile f e && t e)) one (a .records j .entries) (r .mine)
-  where
-    one : (e : Entry) → eqb (a .headers (e .file) .holder) j ≡ true → not (forFile f e && t e) ≡ true
-    one e x =
-        let held : a .headers (e .file) .holder ≡ j = eqb-true _ _ x in
-        by-equal (e .file) f (λ y. absurd (n (rw y at held))) (λ y. rw (ne-eqb (e .file) f y))
+    every-implies (λ e. eqb (a .headers (e .file) .holder) j) (λ e. not (forFile f e && t e))
+    (λ e x.
+    let held : a .headers (e .file) .holder ≡ j = eqb-true _ _ x in
+    by-equal (e .file) f (λ y. absurd (n (rw y at held))) (λ y. rw (ne-eqb (e .file) f y)))
+    (a .records j .entries) (r .mine)
 
 -- Neither refusal 1 nor refusal 2.
 pub record Ready (a : View) (s : Session) : Type 0 where
@@ -67,25 +64,24 @@ pub record Ready (a : View) (s : Session) : Type 0 where
 
 pub ready : (a : View) (s : Session) → lawful a ≡ true → sessionFits a s ≡ true → Ready a s
 unfolding sessionFits markFits
-ready a s l fits = record { laws = lawful-facts a l; runs = λ j w. running j (fit j w) }
-  where
-    fit : (j : ℕ) → Active s j → markFits a j ≡ true
-    fit j w = or-right (not (isActive s j)) (markFits a j)
-        (every-from (λ k. not (isActive s k) || markFits a k) 4 1 fits j (w .low) (omega arith)) (rw (w .on))
-
-    running : (j : ℕ) → markFits a j ≡ true → Running a j
-    running j e = record { client = leb-true _ _ (all-at _ 0 e); state = eqb-true _ _ (all-at _ 1 e); mine = all-at _ 2 e }
+ready a s l fits = record {
+  laws = lawful-facts a l;
+  runs = λ j w.
+      let e : markFits a j ≡ true = or-right (not (isActive s j)) (markFits a j)
+      (every-from (λ k. not (isActive s k) || markFits a k) 4 1 fits j (w .low) (omega arith)) (rw (w .on)) in
+      record { client = leb-true _ _ (all-at _ 0 e); state = eqb-true _ _ (all-at _ 1 e); mine = all-at _ 2 e };
+}
 
 -- A session whose marked clients have a transaction running fits.
 pub running-fits : (a : View) (s : Session) → ((j : ℕ) → Active s j → Running a j) → sessionFits a s ≡ true
 unfolding sessionFits markFits
 running-fits a s runs = every-all _ 4 1
     (λ j lo hi. by-test (isActive s j)
-    (λ on. or-true (not (isActive s j)) (markFits a j) (fits j (runs j (record { low = lo; high = omega arith; on = on }))))
+    (λ on.
+    let r : Running a j = runs j (record { low = lo; high = omega arith; on = on }) in
+    or-true (not (isActive s j)) (markFits a j)
+    (all-cons _ (le-leb _ _ (r .client)) (all-cons _ (eq-eqb _ _ (r .state)) (all-cons _ (r .mine) all-nil))))
     (λ off. rw off))
-  where
-    fits : (j : ℕ) → Running a j → markFits a j ≡ true
-    fits j r = all-cons _ (le-leb _ _ (r .client)) (all-cons _ (eq-eqb _ _ (r .state)) (all-cons _ (r .mine) all-nil))
 
 -- ------------------------------------------------------------------ each call
 -- Begin.
@@ -115,8 +111,8 @@ pub record MayRead (a : View) (s : Session) (k f p : ℕ) : Type 0 where
 pub record MayWrite (a : View) (s : Session) (k f p : ℕ) (d : Bytes) : Type 0 where
   pub place : MayRead a s k f p
   pub size : length d ≡ 256
-  pub room : (noEntry a k f p && eqb (length (freeSlots a k f)) 0) ≡ false
-  pub few : (noEntry a k f p && eqb (length (a .records k .entries)) 62) ≡ false
+  pub room : (isNewPage a k f p && eqb (length (freeSlots a k f)) 0) ≡ false
+  pub few : (isNewPage a k f p && eqb (length (a .records k .entries)) 62) ≡ false
 
 abbrev pub Allowed : View → Session → Call → Type 0
 Allowed a s (begin k) = MayBegin a s k
@@ -124,6 +120,21 @@ Allowed a s (openFile k f) = MayOpen a s k f
 Allowed a s (write k f p d) = MayWrite a s k f p d
 Allowed a s (commit k) = MayAct a s k
 Allowed a s (abort k) = MayAct a s k
+
+abbrev pub Answerable : View → Session → Query → Type 0
+Answerable a s (readPage k f p) = MayRead a s k f p
+
+-- The record of an active client.
+pub own-record : {a : View} {s : Session} {k : ℕ} → MayAct a s k → RecordFacts (a .table) (a .records k)
+own-record {k = k} w = record-facts (w .ready .laws .records k (w .active .low) (w .running .client))
+
+-- The slot that a read finds is one of the file's: given by an entry that fits, or by the map.
+pub slot-below : {a : View} {s : Session} {k f p : ℕ} → MayRead a s k f p → (o : Option Entry) → entryFor a k f p ≡ o
+    → slotFor a f p o < fileAt (a .table) f .slots
+slot-below {a} {f = f} {p = p} w none e =
+    let m = w .act .ready .laws .headers f (w .file) .map in
+    ltb-true _ _ (every-at (λ r. ltb r (fileAt (a .table) f .slots)) (a .headers f .map) p 0 (m .below) (rw (m .size) (w .page)))
+slot-below {f = f} {p = p} w (some x) e = entry-facts (own-record (w .act)) f p x e .slot
 
 -- Where open isn't refused, a holder other than k is orphaned, unless there is none: one that is active is refused by 7, one
 -- whose record is idle by 1.
@@ -135,77 +146,101 @@ holder-orphaned a s k f facts free n = by-equal (a .headers f .holder) 0
     let off : isActive s (a .headers f .holder) ≡ false = rw (ne-eqb _ 0 z, ne-eqb _ k n) at free in
     rw (ne-eqb _ 0 z, off, facts .holder z .live))
 
+-- ------------------------------------------------------------------ the order of the tests
+-- A refusal that is neither 1 nor 2.
+abbrev pub Later : ℕ → Type 0
+Later n = (n ≢ 1) × (n ≢ 2)
+
+-- The first test is 1, the second is 2, and the others come later. `ok` is what test 1 asks, `fits` what test 2 asks.
+pub record Ordered (ok fits : Bool) (xs : List (ℕ × Bool)) : Type 0 where
+  rest : List (ℕ × Bool)
+  is : xs ≡ (1, not ok) ∷ (2, not fits) ∷ rest
+  high : every (λ x. leb 3 (x .0)) rest ≡ true
+
+first-later : (xs : List (ℕ × Bool)) → every (λ x. leb 3 (x .0)) xs ≡ true → Later (first xs)
+unfolding first
+first-later [] e = (omega arith, omega arith)
+first-later (x ∷ xs) e =
+    let three : 3 ≤ x .0 = leb-true _ _ (and-left (leb 3 (x .0)) _ e) in
+    if-test Later (x .1) (x .0) (first xs) (λ t. (omega arith, omega arith)) (λ t. first-later xs (and-right (leb 3 (x .0)) _ e))
+
+module _ {ok fits : Bool} {xs : List (ℕ × Bool)} (h : Ordered ok fits xs) where
+  pub passed-first : first xs ≡ 0 → ok ≡ true
+  unfolding first
+  passed-first e = by-test ok (λ t. t) (λ n. absurd (omega (arith, rw (h .is, n) at e)))
+
+  pub passed-both : ok ≡ true → fits ≡ true → Later (first xs)
+  unfolding first
+  passed-both e q = rw (h .is, e, q) (first-later (h .rest) (h .high))
+
+module _ (ok : Bool) (a : View) (s : Session) where
+  pub ordered : (c : Call) → Ordered ok (sessionFits a s) (tests ok a s c)
+  unfolding tests
+  ordered (begin k) = record { rest = _; is = refl; high = refl }
+  ordered (openFile k f) = record { rest = _; is = refl; high = refl }
+  ordered (write k f p d) = record { rest = _; is = refl; high = refl }
+  ordered (commit k) = record { rest = _; is = refl; high = refl }
+  ordered (abort k) = record { rest = _; is = refl; high = refl }
+
+  pub query-ordered : (q : Query) → Ordered ok (sessionFits a s) (queryTests ok a s q)
+  unfolding queryTests
+  query-ordered (readPage k f p) = record { rest = _; is = refl; high = refl }
+
 -- ------------------------------------------------------------------ from the tests
-module _ (v : Volume) (s : Session) where
-  -- The tests that every call begins with.
-  abbrev common : ℕ → List (ℕ × Bool) → List (ℕ × Bool)
-  common k xs = (1, not (sound v)) ∷ (2, not (sessionFits (view v) s)) ∷ (3, not (isClient (view v .table) k)) ∷ xs
+module _ (ok : Bool) (a : View) (s : Session) (law : ok ≡ true → lawful a ≡ true) where
+  is-ready : not ok ≡ false → not (sessionFits a s) ≡ false → Ready a s
+  is-ready e q = ready a s (law (not-false _ e)) (not-false _ q)
 
-  module _ (k : ℕ) (xs : List (ℕ × Bool)) (pos : every (λ x. leb 1 (x .0)) xs ≡ true) (e : first (common k xs) ≡ 0) where
-    is-sound : sound v ≡ true
-    is-sound = not-false _ (first-none (common k xs) 0 pos e)
-
-    is-ready : Ready (view v) s
-    unfolding sound
-    is-ready = ready (view v) s (all-at _ 0 is-sound) (not-false _ (first-none (common k xs) 1 pos e))
-
-    is-client : (1 ≤ k) × (k ≤ view v .table .clients)
-    is-client = client-of (view v .table) k (not-false _ (first-none (common k xs) 2 pos e))
-
-  -- Those that a call of an active client begins with.
-  abbrev acts : ℕ → List (ℕ × Bool) → List (ℕ × Bool)
-  acts k xs = common k ((5, not (isActive s k)) ∷ xs)
-
-  may-act : (k : ℕ) (xs : List (ℕ × Bool)) → every (λ x. leb 1 (x .0)) xs ≡ true → first (acts k xs) ≡ 0 → MayAct (view v) s k
-  may-act k xs pos e =
-      let r : Ready (view v) s = is-ready k _ pos e in
-      let q = is-client k _ pos e in
-      let four : k ≤ 4 = omega (arith, r .laws .table .four, q .1) in
-      let w : Active s k = record { low = q .0; high = four; on = not-false _ (first-none (acts k xs) 3 pos e) } in
+  acting : (k : ℕ) → Ready a s → not (isClient (a .table) k) ≡ false → not (isActive s k) ≡ false → MayAct a s k
+  acting k r e q =
+      let i = client-of (a .table) k (not-false _ e) in
+      let w : Active s k = record { low = i .0; high = omega (arith, r .laws .table .four, i .1); on = not-false _ q } in
       record { ready = r; active = w; running = r .runs k w }
 
-  -- Those that a call for a page begins with.
-  abbrev pages : ℕ → ℕ → ℕ → List (ℕ × Bool) → List (ℕ × Bool)
-  pages k f p xs = acts k ((6, not (isFile (view v .table) f)) ∷ (8, not (holds (view v) k f)) ∷ (9, noPage (view v) f p) ∷ xs)
-
-  may-read : (k f p : ℕ) (xs : List (ℕ × Bool)) → every (λ x. leb 1 (x .0)) xs ≡ true → first (pages k f p xs) ≡ 0
-      → MayRead (view v) s k f p
-  may-read k f p xs pos e = record {
-    act = may-act k _ pos e;
-    file = file-of (view v .table) f (not-false _ (first-none (pages k f p xs) 4 pos e));
-    holder = eqb-true _ _ (not-false _ (first-none (pages k f p xs) 5 pos e));
-    page = ltb-true _ _ (not-false _ (first-none (pages k f p xs) 6 pos e));
+  reading : (k f p : ℕ) → MayAct a s k → not (isFile (a .table) f) ≡ false → not (holds a k f) ≡ false → pageMissing a f p .1 ≡ false
+      → MayRead a s k f p
+  reading k f p w file holder page = record {
+    act = w;
+    file = file-of (a .table) f (not-false _ file);
+    holder = eqb-true _ _ (not-false _ holder);
+    page = ltb-true _ _ (not-false _ page);
   }
 
-  -- A read that isn't refused.
-  pub readable : (k f p : ℕ) → first (readTests (sound v) (view v) s k f p) ≡ 0 → MayRead (view v) s k f p
-  unfolding readTests
-  readable k f p e = may-read k f p [] refl e
+  -- A question that isn't refused.
+  pub answerable : (q : Query) → first (queryTests ok a s q) ≡ 0 → Answerable a s q
+  unfolding queryTests
+  answerable (readPage k f p) e =
+      let no = first-none (queryTests ok a s (readPage k f p)) in
+      reading k f p (acting k (is-ready (no 0 refl e) (no 1 refl e)) (no 2 refl e) (no 3 refl e)) (no 4 refl e) (no 5 refl e) (no 6 refl e)
 
-  -- A call that isn't refused.
-  pub allowed : (c : Call) → first (tests (sound v) (view v) s c) ≡ 0 → Allowed (view v) s c
+  -- A call that isn't refused. The tests of commit and abort are the same.
+  acts : (k : ℕ) → first (tests ok a s (commit k)) ≡ 0 → MayAct a s k
+  unfolding tests
+  acts k e =
+      let no = first-none (tests ok a s (commit k)) in
+      acting k (is-ready (no 0 refl e) (no 1 refl e)) (no 2 refl e) (no 3 refl e)
+
+  pub allowed : (c : Call) → first (tests ok a s c) ≡ 0 → Allowed a s c
   unfolding tests
   allowed (begin k) e =
-      let q = is-client k _ refl e in
-      record { ready = is-ready k _ refl e; low = q .0; high = q .1; off = first-none (tests (sound v) (view v) s (begin k)) 3 refl e }
+      let no = first-none (tests ok a s (begin k)) in
+      let i = client-of (a .table) k (not-false _ (no 2 refl e)) in
+      record { ready = is-ready (no 0 refl e) (no 1 refl e); low = i .0; high = i .1; off = no 3 refl e }
   allowed (openFile k f) e =
-      let failed = first-none (tests (sound v) (view v) s (openFile k f)) in
-      record { act = may-act k _ refl e; file = file-of (view v .table) f (not-false _ (failed 4 refl e)); free = failed 5 refl e }
-  allowed (write k f p d) e =
-      let failed = first-none (tests (sound v) (view v) s (write k f p d)) in
+      let no = first-none (tests ok a s (openFile k f)) in
       record {
-        place = may-read k f p _ refl e;
-        size = eqb-true _ _ (not-false _ (failed 7 refl e));
-        room = failed 8 refl e;
-        few = failed 9 refl e;
+        act = acting k (is-ready (no 0 refl e) (no 1 refl e)) (no 2 refl e) (no 3 refl e);
+        file = file-of (a .table) f (not-false _ (no 4 refl e));
+        free = no 5 refl e;
       }
-  allowed (commit k) e = may-act k [] refl e
-  allowed (abort k) e = may-act k [] refl e
-
-  pub allowed-sound : (c : Call) → first (tests (sound v) (view v) s c) ≡ 0 → sound v ≡ true
-  unfolding tests
-  allowed-sound (begin k) e = is-sound k _ refl e
-  allowed-sound (openFile k f) e = is-sound k _ refl e
-  allowed-sound (write k f p d) e = is-sound k _ refl e
-  allowed-sound (commit k) e = is-sound k _ refl e
-  allowed-sound (abort k) e = is-sound k _ refl e
+  allowed (write k f p d) e =
+      let no = first-none (tests ok a s (write k f p d)) in
+      record {
+        place = reading k f p (acting k (is-ready (no 0 refl e) (no 1 refl e)) (no 2 refl e) (no 3 refl e))
+            (no 4 refl e) (no 5 refl e) (no 6 refl e);
+        size = eqb-true _ _ (not-false _ (no 7 refl e));
+        room = no 8 refl e;
+        few = no 9 refl e;
+      }
+  allowed (commit k) e = acts k e
+  allowed (abort k) e = acts k e

@@ -5,23 +5,23 @@ use mathlib.Core.List.{List, [], _∷_, _++_, map}
 use Prim.Native.Nat.{ℕ}
 use lib.ListN.{replicate, set}
 use Rattle.interface.specs.declared.Session.{Session}
-use Rattle.interface.specs.Answers.{newSession, Answer, done, crashed, refused, found, readRefused}
-use Rattle.sector.specs.Lists.{all, first}
+use Rattle.interface.specs.Answers.{newSession, Answer, done, crashed, refused, found, queryRefused}
+use Rattle.lists.specs.Lists.{all, first}
 use Rattle.sector.specs.Contents.{Bytes, idleRecord, openRecord}
-use Rattle.sector.specs.Sectors.{Volume, sector, storeAt, padded}
+use Rattle.sector.specs.Sectors.{sector, storeAt, padded}
 use Rattle.sector.specs.Encoding.{fileBytes, encodeTable, entryBytes, encodeRecord, encodeHeader}
 use Rattle.sector.specs.Decoding.{decodeFiles, decodeTable, decodeEntries, decodeRecord, decodeHeader}
 use Rattle.volume.specs.Places.{sectorAfter}
-use Rattle.volume.specs.Volumes.{tableOf, recordIn, headerIn, view}
-use Rattle.volume.specs.Stores.{Store, stored, allStores}
+use Rattle.volume.specs.Volumes.{Volume, tableOf, recordIn, headerIn, view}
+use Rattle.volume.specs.Stores.{Store, cutAt, allStores}
 use Rattle.volume.specs.Lawful.{lawful}
 use Rattle.volume.specs.Sound.{encoded, canonical, sound}
 use Rattle.volume.specs.Format.{repeated, newFiles, newVolume}
 use Rattle.rules.specs.Sessions.{markFits, sessionFits}
 use Rattle.rules.specs.Recovery.{heldFiles, recovery}
-use Rattle.rules.specs.Plans.{Call, begin, commit, abort, beginPlan, plan}
-use Rattle.rules.specs.Refusals.{tests, readTests}
-use Rattle.rules.specs.Calls.{After, executed, callBy, call, readBy, read, partOf, readPart}
+use Rattle.rules.specs.Plans.{Call, begin, commit, abort, readPage, beginPlan, plan}
+use Rattle.rules.specs.Refusals.{tests, queryTests}
+use Rattle.rules.specs.Calls.{After, executed, callBy, call, queryBy, query, partOf, queryPart}
 use Rattle.rules.proofs.ExampleViews.{active1, active2, active12, entry, rec, header, at}
 
 -- The bytes of one sector.
@@ -48,7 +48,7 @@ budgets : map (λ n. executed blank active12 (commit 1) n two) (0 ∷ 1 ∷ 2 �
     ∷ ends (done 2) active2 (page 1 ++ page 2)
     ∷ ends (done 0) active2 blank
     ∷ []
-unfolding stored storeAt
+unfolding cutAt storeAt
 budgets = refl
 
 -- "A refusal comes before any store, leaves every byte and hands back the session given."
@@ -57,34 +57,34 @@ refused-as-given v s c budget = refl
 
 -- ------------------------------------------------------------------ read
 -- A read's sector, the headers being in sectors 5 and 12: by the record of that client, else by the map; or its refusal.
-sectors-read : readBy 0 (at 1) 1 1 1 ∷ readBy 0 (at 1) 3 1 1 ∷ readBy 0 (at 1) 1 1 0
-    ∷ readBy 0 (at 1) 1 2 0 ∷ readBy 0 (at 1) 3 2 0
-    ∷ readBy 8 (at 1) 1 1 1 ∷ []
-    ≡ found 10 ∷ found 11 ∷ found 7 ∷ found 15 ∷ found 13 ∷ readRefused 8 ∷ []
+sectors-read : queryBy 0 (at 1) (readPage 1 1 1) ∷ queryBy 0 (at 1) (readPage 3 1 1) ∷ queryBy 0 (at 1) (readPage 1 1 0)
+    ∷ queryBy 0 (at 1) (readPage 1 2 0) ∷ queryBy 0 (at 1) (readPage 3 2 0)
+    ∷ queryBy 8 (at 1) (readPage 1 1 1) ∷ []
+    ≡ found 10 ∷ found 11 ∷ found 7 ∷ found 15 ∷ found 13 ∷ queryRefused 8 ∷ []
 unfolding sectorAfter
 sectors-read = refl
 
 -- "hands back that part of the lent array itself, 256 bytes, or an empty part on a refusal": the second of three sectors.
-parts : map (partOf (page 1 ++ (page 2 ++ page 3))) (found 1 ∷ readRefused 1 ∷ []) ≡ page 2 ∷ [] ∷ []
+parts : map (partOf (page 1 ++ (page 2 ++ page 3))) (found 1 ∷ queryRefused 1 ∷ []) ≡ page 2 ∷ [] ∷ []
 unfolding sector
 parts = refl
 
 -- ------------------------------------------------------------------ on the bytes of a volume
 -- One client, which has begun and holds the one file, of two pages in three slots: page 0 is in slot 2 by its record.
 abbrev tiny : Volume
-tiny = stored (newVolume (record { sectors = 6; clients = 1; files = record { pages = 2; slots = 3 } ∷ [] }))
+tiny = cutAt (newVolume (record { sectors = 6; clients = 1; files = record { pages = 2; slots = 3 } ∷ [] }))
     (record { target = 1; bytes = encodeRecord (rec 1 (entry 1 0 2 ∷ [])) }
     ∷ record { target = 2; bytes = encodeHeader (record { pages = 2; slots = 3 }) (header 1 (0 ∷ 1 ∷ [])) }
     ∷ record { target = 3; bytes = page 3 }
     ∷ record { target = 4; bytes = page 4 }
     ∷ record { target = 5; bytes = page 5 }
-    ∷ [])
+    ∷ []) 5
 
 -- Pages 0 and 1; no page 2; a new session, whose read is refused; an array that isn't sound.
-parts-read : map (readPart tiny active1 1 1) (0 ∷ 1 ∷ 2 ∷ [])
-    ++ (readPart tiny newSession 1 1 0 ∷ readPart (set tiny 0 0) active1 1 1 0 ∷ [])
+parts-read : map (λ p. queryPart tiny active1 (readPage 1 1 p)) (0 ∷ 1 ∷ 2 ∷ [])
+    ++ (queryPart tiny newSession (readPage 1 1 0) ∷ queryPart (set tiny 0 0) active1 (readPage 1 1 0) ∷ [])
     ≡ page 5 ∷ page 4 ∷ [] ∷ [] ∷ [] ∷ []
-unfolding read readTests first sessionFits markFits sound lawful canonical encoded all view tableOf recordIn headerIn decodeTable decodeFiles decodeRecord decodeEntries decodeHeader sector stored storeAt newVolume newFiles repeated sectorAfter encodeTable fileBytes encodeRecord entryBytes encodeHeader padded
+unfolding query queryTests first sessionFits markFits sound lawful canonical encoded all view tableOf recordIn headerIn decodeTable decodeFiles decodeRecord decodeEntries decodeHeader sector cutAt storeAt newVolume newFiles repeated sectorAfter encodeTable fileBytes encodeRecord entryBytes encodeHeader padded
 parts-read = refl
 
 -- With holder 0, and with an idle record as well.
@@ -102,10 +102,10 @@ called : map (call tiny active1 (abort 1)) (2 ∷ 1 ∷ [])
     ∷ ends (refused 5) newSession tiny
     ∷ ends (refused 1) active1 (set tiny 0 0)
     ∷ []
-unfolding call tests plan recovery heldFiles allStores first sessionFits markFits sound lawful canonical encoded all view tableOf recordIn headerIn decodeTable decodeFiles decodeRecord decodeEntries decodeHeader sector stored storeAt newVolume newFiles repeated sectorAfter encodeTable fileBytes encodeRecord entryBytes encodeHeader padded
+unfolding call tests plan recovery heldFiles allStores first sessionFits markFits sound lawful canonical encoded all view tableOf recordIn headerIn decodeTable decodeFiles decodeRecord decodeEntries decodeHeader sector cutAt storeAt newVolume newFiles repeated sectorAfter encodeTable fileBytes encodeRecord entryBytes encodeHeader padded
 called = refl
 
 -- The stores are those for the session given: client 1, marked, isn't recovered first.
 session-counts : callBy 0 tiny active1 (begin 1) 1 ≡ ends (done 1) active1 (storeAt tiny 1 (encodeRecord openRecord))
-unfolding plan beginPlan allStores view tableOf recordIn headerIn decodeTable decodeFiles decodeRecord decodeEntries decodeHeader sector stored storeAt newVolume newFiles repeated sectorAfter encodeTable fileBytes encodeRecord entryBytes encodeHeader padded
+unfolding plan beginPlan allStores view tableOf recordIn headerIn decodeTable decodeFiles decodeRecord decodeEntries decodeHeader sector cutAt storeAt newVolume newFiles repeated sectorAfter encodeTable fileBytes encodeRecord entryBytes encodeHeader padded
 session-counts = refl

@@ -1,12 +1,13 @@
 -- The sessions and views that the examples evaluate the definitions at. Nothing is claimed here.
 use mathlib.Core.Bool.{Bool, true, false}
-use mathlib.Core.List.{List, [], _∷_}
+use mathlib.Core.List.{[], _∷_}
 use Prim.Native.Nat.{ℕ}
 use lib.Dec.{eqb}
 use Rattle.interface.specs.declared.Session.{Session}
-use Rattle.sector.specs.Lists.{if_then_else_}
+use Rattle.lists.specs.Lists.{if_then_else_}
 use Rattle.sector.specs.Contents.{Bytes, Table, Entry, Record, Header, idleRecord}
 use Rattle.volume.specs.Views.{View, noHeader}
+pub use Rattle.volume.proofs.PlaceExamples.{entry, rec, header}
 
 abbrev pub marks : Bool → Bool → Bool → Bool → Session
 marks a b c d = record { active = a ∷ b ∷ c ∷ d ∷ [] }
@@ -27,15 +28,6 @@ active4 = marks false false false true
 -- Clients 1 and 2.
 abbrev pub active12 : Session
 active12 = marks true true false false
-
-abbrev pub entry : ℕ → ℕ → ℕ → Entry
-entry f p r = record { file = f; page = p; slot = r }
-
-abbrev pub rec : (state : ℕ) → List Entry → Record
-rec state es = record { state = state; entries = es }
-
-abbrev pub header : (holder : ℕ) → List ℕ → Header
-header holder m = record { holder = holder; map = m }
 
 -- A view of two files, with their headers.
 abbrev pub viewOf : Table → (ℕ → Record) → Header → Header → (ℕ → ℕ → Bytes) → View

@@ -8,14 +8,14 @@ use lib.Dec.{eqb}
 use lib.ListN.{replicate}
 use Rattle.interface.specs.declared.Session.{Session}
 use Rattle.interface.specs.Answers.{newSession}
-use Rattle.sector.specs.Lists.{if_then_else_, all, first, filter, member, from}
+use Rattle.lists.specs.Lists.{if_then_else_, all, first, filter, member, from}
 use Rattle.sector.specs.Contents.{Bytes, Entry, idleRecord, openRecord}
 use Rattle.volume.specs.Places.{sectorAfter}
 use Rattle.volume.specs.Views.{View, noHeader}
 use Rattle.volume.specs.Lawful.{lawful}
 use Rattle.rules.specs.Sessions.{markFits, sessionFits}
-use Rattle.rules.specs.Plans.{Call, begin, openFile, write, commit, abort, freeSlots}
-use Rattle.rules.specs.Refusals.{heldByOther, noPage, noEntry, tests, readTests}
+use Rattle.rules.specs.Plans.{Call, begin, openFile, write, commit, abort, readPage, freeSlots}
+use Rattle.rules.specs.Refusals.{heldByOther, pageMissing, isNewPage, tests, queryTests}
 use Rattle.rules.proofs.ExampleViews.{marks, active1, active2, active3, active12, entry, rec, header, viewOf, seen, records, at}
 
 -- ------------------------------------------------------------------ conditions
@@ -30,11 +30,11 @@ held-by-nobody : heldByOther (seen (records 1) (header 0 []) noHeader) active12 
 held-by-nobody = refl
 
 -- "page not below P"
-no-page : map (noPage (at 1) 1) (2 ∷ 3 ∷ []) ≡ false ∷ true ∷ []
+no-page : map (λ p. pageMissing (at 1) 1 p .1) (2 ∷ 3 ∷ []) ≡ false ∷ true ∷ []
 no-page = refl
 
-no-entry : noEntry (at 1) 1 1 1 ∷ noEntry (at 1) 1 1 0 ∷ noEntry (at 1) 2 1 0 ∷ [] ≡ false ∷ true ∷ false ∷ []
-no-entry = refl
+new-page : isNewPage (at 1) 1 1 1 ∷ isNewPage (at 1) 1 1 0 ∷ isNewPage (at 1) 2 1 0 ∷ [] ≡ false ∷ true ∷ false ∷ []
+new-page = refl
 
 -- ------------------------------------------------------------------ the lists
 -- The numbers of a list of refusals, and those that apply.
@@ -46,7 +46,7 @@ applying xs = numbers (filter (λ x. x .1) xs)
 
 -- "The lowest number that applies is given": each list rises. "Begin, commit and abort have no file or page."
 numbers-tested : (ok : Bool) (a : View) (s : Session) (k f p : ℕ) (d : Bytes)
-    → numbers (readTests ok a s k f p)
+    → numbers (queryTests ok a s (readPage k f p))
     ∷ map (λ c. numbers (tests ok a s c)) (write k f p d ∷ openFile k f ∷ begin k ∷ commit k ∷ abort k ∷ [])
     ≡ (1 ∷ 2 ∷ 3 ∷ 5 ∷ 6 ∷ 8 ∷ 9 ∷ [])
     ∷ (1 ∷ 2 ∷ 3 ∷ 5 ∷ 6 ∷ 8 ∷ 9 ∷ 10 ∷ 11 ∷ 12 ∷ [])
@@ -55,7 +55,7 @@ numbers-tested : (ok : Bool) (a : View) (s : Session) (k f p : ℕ) (d : Bytes)
     ∷ (1 ∷ 2 ∷ 3 ∷ 5 ∷ [])
     ∷ (1 ∷ 2 ∷ 3 ∷ 5 ∷ [])
     ∷ []
-unfolding tests readTests
+unfolding tests queryTests
 numbers-tested ok a s k f p d = refl
 
 abbrev whole : Bytes
@@ -64,36 +64,36 @@ whole = replicate 256 7
 -- What applies at `at 1` to client k's read, open, write, commit and abort, and last to client j's begin.
 abbrev applyingTo : (ok : Bool) → Session → (k : ℕ) → (j : ℕ) → List (List ℕ)
 applyingTo ok s k j =
-    applying (readTests ok (at 1) s k 1 2)
+    applying (queryTests ok (at 1) s (readPage k 1 2))
     ∷ map (λ c. applying (tests ok (at 1) s c)) (openFile k 1 ∷ write k 1 0 whole ∷ commit k ∷ abort k ∷ begin j ∷ [])
 
 -- None applies; on a volume that isn't sound 1 alone; with client 2 marked, whose record is decided, 2 alone.
 none-applies : applyingTo true active1 1 4 ≡ replicate 6 []
-unfolding tests readTests sessionFits markFits freeSlots all
+unfolding tests queryTests sessionFits markFits freeSlots all
 none-applies = refl
 
 one-applies : applyingTo false active1 1 4 ≡ replicate 6 (1 ∷ [])
-unfolding tests readTests sessionFits markFits freeSlots all
+unfolding tests queryTests sessionFits markFits freeSlots all
 one-applies = refl
 
 two-applies : applyingTo true active12 1 4 ≡ replicate 6 (2 ∷ [])
-unfolding tests readTests sessionFits markFits freeSlots all
+unfolding tests queryTests sessionFits markFits freeSlots all
 two-applies = refl
 
 -- 3: client 0, whose mark is read as client 1's. Client 1 holds file 1, so that 7 or 8 applies too.
 client-0 : applyingTo true active1 0 0 ≡ (3 ∷ 8 ∷ []) ∷ (3 ∷ 7 ∷ []) ∷ (3 ∷ 8 ∷ []) ∷ (3 ∷ []) ∷ (3 ∷ []) ∷ (3 ∷ 4 ∷ []) ∷ []
-unfolding tests readTests sessionFits markFits freeSlots all
+unfolding tests queryTests sessionFits markFits freeSlots all
 client-0 = refl
 
 -- 3 and 5: a client above T.
 client-5 : applyingTo true active1 5 5
     ≡ (3 ∷ 5 ∷ 8 ∷ []) ∷ (3 ∷ 5 ∷ 7 ∷ []) ∷ (3 ∷ 5 ∷ 8 ∷ []) ∷ (3 ∷ 5 ∷ []) ∷ (3 ∷ 5 ∷ []) ∷ (3 ∷ []) ∷ []
-unfolding tests readTests sessionFits markFits freeSlots all
+unfolding tests queryTests sessionFits markFits freeSlots all
 client-5 = refl
 
 -- 5 and 4: client 4, which isn't marked; client 1 begins, which is.
 client-4 : applyingTo true active1 4 1 ≡ (5 ∷ 8 ∷ []) ∷ (5 ∷ 7 ∷ []) ∷ (5 ∷ 8 ∷ []) ∷ (5 ∷ []) ∷ (5 ∷ []) ∷ (4 ∷ []) ∷ []
-unfolding tests readTests sessionFits markFits freeSlots all
+unfolding tests queryTests sessionFits markFits freeSlots all
 client-4 = refl
 
 -- Clients 1 and 3 have begun, and client 1 holds file 1.
@@ -108,10 +108,10 @@ unfolding tests sessionFits markFits all
 open-refused = refl
 
 -- 6, 8 and 9 of a read: file 3, which has no page; file 1 for client 3; page 1 of file 2.
-read-refused : applying (readTests true (at 1) active1 1 3 0) ∷ applying (readTests true at3 active3 3 1 0)
-    ∷ applying (readTests true (at 1) active1 1 2 1) ∷ []
+read-refused : applying (queryTests true (at 1) active1 (readPage 1 3 0)) ∷ applying (queryTests true at3 active3 (readPage 3 1 0))
+    ∷ applying (queryTests true (at 1) active1 (readPage 1 2 1)) ∷ []
     ≡ (6 ∷ 8 ∷ 9 ∷ []) ∷ (8 ∷ []) ∷ (9 ∷ []) ∷ []
-unfolding readTests sessionFits markFits all
+unfolding queryTests sessionFits markFits all
 read-refused = refl
 
 -- ------------------------------------------------------------------ write

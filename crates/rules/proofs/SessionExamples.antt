@@ -7,7 +7,7 @@ use Prim.Native.Nat.{ℕ}
 use lib.Dec.{eqb}
 use Rattle.interface.specs.declared.Session.{Session}
 use Rattle.interface.specs.Answers.{newSession}
-use Rattle.sector.specs.Lists.{if_then_else_, all}
+use Rattle.lists.specs.Lists.{if_then_else_, all}
 use Rattle.sector.specs.Contents.{Table, Record, idleRecord, openRecord, decidedRecord}
 use Rattle.volume.specs.Views.{noHeader}
 use Rattle.rules.specs.Sessions.{isActive, setActive, noneActive, isOrphaned, holds, markFits, sessionFits}

@@ -3,19 +3,19 @@
 use mathlib.Core.List.{List, []}
 use Prim.Native.Nat.{ℕ, zero, suc}
 use lib.Dec.{leb}
-use lib.ListN.{length, take}
+use lib.ListN.{length}
 use Rattle.interface.specs.declared.Session.{Session}
-use Rattle.interface.specs.Answers.{newSession, Answer, done, crashed, refused, ReadAnswer, found, readRefused}
-use Rattle.sector.specs.Lists.{if_then_else_, first}
+use Rattle.interface.specs.Answers.{newSession, Answer, done, crashed, refused, QueryAnswer, found, queryRefused}
+use Rattle.lists.specs.Lists.{if_then_else_, first}
 use Rattle.sector.specs.Contents.{Bytes}
-use Rattle.sector.specs.Sectors.{Volume, sector}
+use Rattle.sector.specs.Sectors.{sector}
 use Rattle.volume.specs.Places.{slotPlace, sectorOf}
 use Rattle.volume.specs.Views.{View}
-use Rattle.volume.specs.Volumes.{view}
+use Rattle.volume.specs.Volumes.{Volume, view}
 use Rattle.volume.specs.Sound.{sound}
-use Rattle.volume.specs.Stores.{Store, stored, allStores}
-use Rattle.rules.specs.Plans.{Call, entryFor, slotFor, plan, sessionAfter}
-use Rattle.rules.specs.Refusals.{tests, readTests}
+use Rattle.volume.specs.Stores.{Store, cutAt, allStores}
+use Rattle.rules.specs.Plans.{Call, Query, readPage, entryFor, slotFor, plan, sessionAfter}
+use Rattle.rules.specs.Refusals.{tests, queryTests}
 
 -- What a call answers and leaves.
 pub record After : Type 0 where
@@ -24,36 +24,46 @@ pub record After : Type 0 where
   pub volume : Volume
 
 -- "A call whose stores exceed [its allowance] makes exactly the first so many, answers cut with the number of stores made,
--- and hands back a new session. Otherwise it answers done with that number."
+-- and hands back a new session. Otherwise it answers done with that number", and the first so many are all.
 abbrev pub executed : Volume → Session → Call → (budget : ℕ) → List Store → After
 executed v s c budget xs =
     if leb (length xs) budget
-    then record { answer = done (length xs); session = sessionAfter s c; volume = stored v xs }
-    else record { answer = crashed budget; session = newSession; volume = stored v (take budget xs) }
+    then record { answer = done (length xs); session = sessionAfter s c; volume = cutAt v xs budget }
+    else record { answer = crashed budget; session = newSession; volume = cutAt v xs budget }
+
+-- The stores of a call that isn't refused.
+abbrev pub callStores : Volume → Session → Call → List Store
+callStores v s c = allStores (view v .table) (plan (view v) s c)
 
 -- The number is the refusal's, or 0. "A refusal comes before any store, leaves every byte and hands back the session given."
 abbrev pub callBy : ℕ → Volume → Session → Call → (budget : ℕ) → After
-callBy zero v s c budget = executed v s c budget (allStores (view v .table) (plan (view v) s c))
+callBy zero v s c budget = executed v s c budget (callStores v s c)
 callBy (suc n) v s c budget = record { answer = refused (suc n); session = s; volume = v }
 
 -- Begin, open, write, commit and abort.
 unfoldable pub call : Volume → Session → Call → (budget : ℕ) → After
 call v s c budget = callBy (first (tests (sound v) (view v) s c)) v s c budget
 
--- ------------------------------------------------------------------ read
-abbrev pub readBy : ℕ → View → ℕ → ℕ → ℕ → ReadAnswer
-readBy zero a k f p = found (sectorOf (a .table) (slotPlace f (slotFor a f p (entryFor a k f p))))
-readBy (suc n) a k f p = readRefused (suc n)
+-- ------------------------------------------------------------------ questions
+-- The answer to a question that isn't refused. Read "answers the sector number": "the sector that (f, p) has in record k, else
+-- by the map".
+abbrev pub answerTo : View → Query → QueryAnswer
+answerTo a (readPage k f p) = found (sectorOf (a .table) (slotPlace f (slotFor a f p (entryFor a k f p))))
 
--- Read "answers the sector number".
-unfoldable pub read : Volume → Session → ℕ → ℕ → ℕ → ReadAnswer
-read v s k f p = readBy (first (readTests (sound v) (view v) s k f p)) (view v) k f p
+-- The number is the refusal's, or 0.
+abbrev pub queryBy : ℕ → View → Query → QueryAnswer
+queryBy zero a q = answerTo a q
+queryBy (suc n) a q = queryRefused (suc n)
+
+-- A question: no store, and no session handed back.
+unfoldable pub query : Volume → Session → Query → QueryAnswer
+query v s q = queryBy (first (queryTests (sound v) (view v) s q)) (view v) q
 
 -- "a second call hands back that part of the lent array itself, 256 bytes, or an empty part on a refusal"
-abbrev pub partOf : Volume → ReadAnswer → Bytes
+abbrev pub partOf : Volume → QueryAnswer → Bytes
 partOf v (found n) = sector v n
-partOf v (readRefused n) = []
+partOf v (queryRefused n) = []
 
--- That second call, with the read's arguments.
-abbrev pub readPart : Volume → Session → ℕ → ℕ → ℕ → Bytes
-readPart v s k f p = partOf v (read v s k f p)
+-- That second call, with the question's arguments.
+abbrev pub queryPart : Volume → Session → Query → Bytes
+queryPart v s q = partOf v (query v s q)

@@ -6,7 +6,7 @@ use Prim.Native.Nat.{ℕ}
 use lib.Dec.{eqb}
 use lib.ListN.{getD}
 use Rattle.interface.specs.declared.Session.{Session}
-use Rattle.sector.specs.Lists.{if_then_else_, any, filter, find, member, from}
+use Rattle.lists.specs.Lists.{if_then_else_, any, filter, find, member, from}
 use Rattle.sector.specs.Contents.{Bytes, File, Entry, Record, Header, openRecord, decidedRecord, appended}
 use Rattle.sector.specs.Entries.{forPage, givesSlot}
 use Rattle.volume.specs.Places.{fileAt}
@@ -21,6 +21,10 @@ pub data Call : Type 0 where
   write : (client : ℕ) → (file : ℕ) → (page : ℕ) → Bytes → Call
   commit : (client : ℕ) → Call
   abort : (client : ℕ) → Call
+
+-- The questions, which store nothing and hand back no session.
+pub data Query : Type 0 where
+  readPage : (client : ℕ) → (file : ℕ) → (page : ℕ) → Query
 
 -- ------------------------------------------------------------------ pages and slots
 -- The entry that record k has for (f, p).

@@ -1,16 +1,18 @@
--- Refusals 1 to 12: each call's list of (number, condition), read downwards. "The lowest number that applies is given".
+-- Refusals 1 to 12, each once: its number and its condition. Then the list of those that a call or a question tests, read
+-- downwards. "The lowest number that applies is given".
 use mathlib.Core.Bool.{Bool, not, _&&_}
-use mathlib.Core.List.{List, [], _∷_}
+use mathlib.Core.List.{List, [], _∷_, _++_}
 use Prim.Native.Nat.{ℕ}
 use lib.Dec.{eqb, ltb}
 use lib.ListN.{length}
 use Rattle.interface.specs.declared.Session.{Session}
-use Rattle.sector.specs.Lists.{isSome}
-use Rattle.sector.specs.Contents.{File, Entry, Record, Header}
+use Rattle.lists.specs.Lists.{isSome}
+use Rattle.sector.specs.Layout.{entryLimit}
+use Rattle.sector.specs.Contents.{Bytes, File, Entry, Record, Header}
 use Rattle.volume.specs.Places.{isClient, isFile, fileAt}
 use Rattle.volume.specs.Views.{View}
 use Rattle.rules.specs.Sessions.{isActive, holds, sessionFits}
-use Rattle.rules.specs.Plans.{Call, begin, openFile, write, commit, abort, entryFor, freeSlots}
+use Rattle.rules.specs.Plans.{Call, begin, openFile, write, commit, abort, Query, readPage, entryFor, freeSlots}
 
 -- "another marked kiln holds f"
 abbrev pub heldByOther : View → Session → ℕ → ℕ → Bool
@@ -18,33 +20,91 @@ heldByOther a s k f =
     let holder = a .headers f .holder in
     not (eqb holder 0) && not (eqb holder k) && isActive s holder
 
+-- Record k has "no entry yet" for (f, p).
+abbrev pub isNewPage : View → ℕ → ℕ → ℕ → Bool
+isNewPage a k f p = not (isSome (entryFor a k f p))
+
+-- A refusal's number, and whether it applies.
+abbrev pub Test : Type 0
+Test = ℕ × Bool
+
+-- "volume not sound". `ok`: it is.
+abbrev pub notSound : (ok : Bool) → Test
+notSound ok = (1, not ok)
+
+-- "session marks a kiln above T, one whose record isn't open, or one whose record has an entry for a file whose header doesn't
+-- name that kiln"
+abbrev pub badSession : View → Session → Test
+badSession a s = (2, not (sessionFits a s))
+
+-- "kiln not 1 to T"
+abbrev pub clientMissing : View → ℕ → Test
+clientMissing a k = (3, not (isClient (a .table) k))
+
+-- "begin: k marked"
+abbrev pub alreadyActive : Session → ℕ → Test
+alreadyActive s k = (4, isActive s k)
+
+-- "other calls: k not marked"
+abbrev pub notActive : Session → ℕ → Test
+notActive s k = (5, not (isActive s k))
+
+-- "file not 1 to F"
+abbrev pub fileMissing : View → ℕ → Test
+fileMissing a f = (6, not (isFile (a .table) f))
+
+-- "open: another marked kiln holds f"
+abbrev pub fileInUse : View → Session → ℕ → ℕ → Test
+fileInUse a s k f = (7, heldByOther a s k f)
+
+-- "read, write: k doesn't hold f"
+abbrev pub notHeld : View → ℕ → ℕ → Test
+notHeld a k f = (8, not (holds a k f))
+
 -- "page not below P"
-abbrev pub noPage : View → ℕ → ℕ → Bool
-noPage a f p = not (ltb p (fileAt (a .table) f .pages))
+abbrev pub pageMissing : View → ℕ → ℕ → Test
+pageMissing a f p = (9, not (ltb p (fileAt (a .table) f .pages)))
 
--- Record k has no entry for (f, p) yet.
-abbrev pub noEntry : View → ℕ → ℕ → ℕ → Bool
-noEntry a k f p = not (isSome (entryFor a k f p))
+-- "write: data not 256 bytes"
+abbrev pub badPageLength : Bytes → Test
+badPageLength d = (10, not (eqb (length d) 256))
 
--- `ok`: the volume is sound.
-unfoldable pub tests : (ok : Bool) → View → Session → Call → List (ℕ × Bool)
-tests ok a s (begin k) =
-    (1, not ok) ∷ (2, not (sessionFits a s)) ∷ (3, not (isClient (a .table) k)) ∷ (4, isActive s k) ∷ []
-tests ok a s (openFile k f) =
-    (1, not ok) ∷ (2, not (sessionFits a s)) ∷ (3, not (isClient (a .table) k)) ∷ (5, not (isActive s k))
-    ∷ (6, not (isFile (a .table) f)) ∷ (7, heldByOther a s k f) ∷ []
-tests ok a s (write k f p d) =
-    (1, not ok) ∷ (2, not (sessionFits a s)) ∷ (3, not (isClient (a .table) k)) ∷ (5, not (isActive s k))
-    ∷ (6, not (isFile (a .table) f)) ∷ (8, not (holds a k f)) ∷ (9, noPage a f p) ∷ (10, not (eqb (length d) 256))
-    ∷ (11, noEntry a k f p && eqb (length (freeSlots a k f)) 0)
-    ∷ (12, noEntry a k f p && eqb (length (a .records k .entries)) 62) ∷ []
-tests ok a s (commit k) =
-    (1, not ok) ∷ (2, not (sessionFits a s)) ∷ (3, not (isClient (a .table) k)) ∷ (5, not (isActive s k)) ∷ []
-tests ok a s (abort k) =
-    (1, not ok) ∷ (2, not (sessionFits a s)) ∷ (3, not (isClient (a .table) k)) ∷ (5, not (isActive s k)) ∷ []
+-- "write, no entry yet: no real as described"
+abbrev pub noFreeSlot : (isNew : Bool) → View → ℕ → ℕ → Test
+noFreeSlot isNew a k f = (11, isNew && eqb (length (freeSlots a k f)) 0)
 
--- Read's refusals.
-unfoldable pub readTests : (ok : Bool) → View → Session → ℕ → ℕ → ℕ → List (ℕ × Bool)
-readTests ok a s k f p =
-    (1, not ok) ∷ (2, not (sessionFits a s)) ∷ (3, not (isClient (a .table) k)) ∷ (5, not (isActive s k))
-    ∷ (6, not (isFile (a .table) f)) ∷ (8, not (holds a k f)) ∷ (9, noPage a f p) ∷ []
+-- "write, no entry yet: C is 62"
+abbrev pub recordFull : (isNew : Bool) → View → ℕ → Test
+recordFull isNew a k = (12, isNew && eqb (length (a .records k .entries)) entryLimit)
+
+-- Of every client's call.
+abbrev pub clientTests : (ok : Bool) → View → Session → ℕ → List Test
+clientTests ok a s k = notSound ok ∷ badSession a s ∷ clientMissing a k ∷ []
+
+-- Of a client whose transaction is running.
+abbrev pub activeTests : (ok : Bool) → View → Session → ℕ → List Test
+activeTests ok a s k = clientTests ok a s k ++ (notActive s k ∷ [])
+
+-- Of a file that a client opens.
+abbrev pub fileTests : View → Session → ℕ → ℕ → List Test
+fileTests a s k f = fileMissing a f ∷ fileInUse a s k f ∷ []
+
+-- Of a page that a client reads or writes.
+abbrev pub pageTests : View → ℕ → ℕ → ℕ → List Test
+pageTests a k f p = fileMissing a f ∷ notHeld a k f ∷ pageMissing a f p ∷ []
+
+-- Of where a page that is written goes. `isNew`: it has no entry yet.
+abbrev pub slotTests : (isNew : Bool) → View → ℕ → ℕ → Bytes → List Test
+slotTests isNew a k f d = badPageLength d ∷ noFreeSlot isNew a k f ∷ recordFull isNew a k ∷ []
+
+-- A call's tests.
+unfoldable pub tests : (ok : Bool) → View → Session → Call → List Test
+tests ok a s (begin k) = clientTests ok a s k ++ (alreadyActive s k ∷ [])
+tests ok a s (openFile k f) = activeTests ok a s k ++ fileTests a s k f
+tests ok a s (write k f p d) = activeTests ok a s k ++ (pageTests a k f p ++ slotTests (isNewPage a k f p) a k f d)
+tests ok a s (commit k) = activeTests ok a s k
+tests ok a s (abort k) = activeTests ok a s k
+
+-- A question's.
+unfoldable pub queryTests : (ok : Bool) → View → Session → Query → List Test
+queryTests ok a s (readPage k f p) = activeTests ok a s k ++ pageTests a k f p

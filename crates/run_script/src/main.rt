@@ -1,4 +1,4 @@
-// Runs a script of calls from standard input on a volume of its own, and writes the answer of each line to standard output.
+// Runs a script of calls from standard input on a volume of its own, and prints the answer of each line.
 mod print;
 mod step;
 

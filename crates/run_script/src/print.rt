@@ -1,7 +1,7 @@
 // What lines print.
 use interface::FormatOutcome;
 use interface::Outcome;
-use interface::ReadOutcome;
+use interface::QueryOutcome;
 use script::texts::hex;
 
 pub fn put(text: &[u8]) {
@@ -49,15 +49,15 @@ pub fn put_hex(bytes: &[u8]) {
 }
 
 // A read's answer, and the part of the volume that it hands back.
-pub fn put_read(o: ReadOutcome, page: &[u8]) {
+pub fn put_read(o: QueryOutcome, page: &[u8]) {
     match o {
-        ReadOutcome::Sector(n) => {
+        QueryOutcome::Sector(n) => {
             put(b"sector ");
             io::print_decimal(1, wide_sector(n));
             put(b" ");
             put_hex(page);
         }
-        ReadOutcome::Refused(r) => put_line(b"refused ", wide(interface::number(r))),
+        QueryOutcome::Refused(r) => put_line(b"refused ", wide(interface::number(r))),
     }
 }
 

@@ -1,4 +1,4 @@
-// What a line does: to the volume, which is the front of the buffer, and to the session.
+// What a line does to the volume, which is the front of the buffer, and to the session.
 use crate::print::put_format;
 use crate::print::put_hex;
 use crate::print::put_list;
@@ -29,7 +29,7 @@ fn run_call(v: &mut [u8], s: Session, a: Action, line: &[u8]) -> Turn {
     let t = p.told;
     match t {
         Told::Call(o) => put_outcome(o),
-        Told::Read(o) => put_read(o, commands::looks::page(v, s, line)),
+        Told::Query(o) => put_read(o, commands::inspect::page(v, s, line)),
     }
     let next = p.session;
     Turn {
@@ -40,7 +40,7 @@ fn run_call(v: &mut [u8], s: Session, a: Action, line: &[u8]) -> Turn {
 
 // `dump S`: whether there is such a sector.
 fn dump(v: &[u8], line: &[u8]) -> bool {
-    let part = commands::looks::dump(v, line);
+    let part = commands::inspect::dump(v, line);
     if part.len() == 0 {
         return false;
     }
@@ -49,9 +49,9 @@ fn dump(v: &[u8], line: &[u8]) -> bool {
 }
 
 // A line that leaves the session as it is: whether it names a place in the volume.
-fn look(v: &mut [u8], kind: Kind, line: &[u8]) -> bool {
+fn inspect(v: &mut [u8], kind: Kind, line: &[u8]) -> bool {
     match kind {
-        Kind::Poke => commands::looks::poke(v, line),
+        Kind::Poke => commands::inspect::poke(v, line),
         Kind::Dump => dump(v, line),
         Kind::List => {
             put_list(v);
@@ -71,12 +71,12 @@ fn run_line(v: &mut [u8], s: Session, kind: Kind, line: &[u8]) -> Turn {
         Kind::Abort => run_call(v, s, Action::Abort, line),
         Kind::Read => run_call(v, s, Action::Read, line),
         Kind::Session => Turn {
-            session: commands::looks::session(line),
+            session: commands::inspect::session(line),
             is_understood: true,
         },
         _ => Turn {
             session: s,
-            is_understood: look(v, kind, line),
+            is_understood: inspect(v, kind, line),
         },
     }
 }
@@ -104,7 +104,7 @@ fn format(buffer: &mut [u8], line: &[u8]) -> State {
 
 // Runs one line.
 pub fn step(buffer: &mut [u8], state: State, line: &[u8]) -> State {
-    if commands::looks::is_remark(line) {
+    if commands::inspect::is_remark(line) {
         return state;
     }
     let kind = script::kinds::kind(line);

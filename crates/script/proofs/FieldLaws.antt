@@ -1,19 +1,19 @@
 -- A line read from byte i on: each definition over the bytes from i on, by the byte at i and those behind it, and at the end of
 -- the line. So in every loop over a line what is left decides.
-use mathlib.Core.Path.{_≡_, refl, sym, _∙_}
-use mathlib.Core.Bool.{Bool, true, false, _&&_, and-false}
+use mathlib.Core.Path.{_≡_, refl}
+use mathlib.Core.Bool.{true, false, _&&_, _||_, and-false}
 use mathlib.Core.List.{[], _∷_}
 use mathlib.Core.Logic.{_≢_}
-use Prim.Native.Nat.{ℕ, suc, _+_, _*_, _-_, _≤_, _<_, min}
+use Prim.Native.Nat.{ℕ, _+_, _*_, _-_, _≤_, _<_, min}
 use native.Mathlib.Numerals.{add-one}
 use native.Mathlib.Omega.{arith}
 use borrow.Author.Tests.{eq-eqb, ne-eqb, le-leb, lt-leb}
 use lib.Dec.{eqb, leb}
 use lib.ListN.{length, drop, getD, drop-of-length-le}
-use Rattle.sector.specs.Lists.{between}
+use lib.Seq.{drop-drop}
 use Rattle.sector.specs.Contents.{Bytes}
-use Rattle.sector.proofs.TestLaws.{drop-next}
-use Rattle.script.specs.Fields.{isSpace, isDigit, spaces, arguments, behindSpace, fromField, tooLarge, digitsFrom, number, argument, hasWord}
+use Rattle.lists.proofs.TestLaws.{drop-next}
+use Rattle.script.specs.Fields.{isSpace, spaces, arguments, behindSpace, fromField, tooLarge, digitsFrom, front, argument, hasWord}
 
 -- ------------------------------------------------------------------ at a byte
 module _ (l : Bytes) (i : ℕ) (h : i < length l) where
@@ -44,22 +44,6 @@ module _ (l : Bytes) (i : ℕ) (h : i < length l) where
       → digitsFrom n (drop i l) ≡ digitsFrom (min (10 * n + (getD l i 0 - 48)) tooLarge) (drop (i + 1) l)
   digits-more n e lo hi = rw (next, ne-eqb _ _ e, le-leb 48 _ lo, le-leb _ 57 hi)
 
-  pub number-none : getD l i 0 ≡ 0x20 → number (drop i l) ≡ tooLarge
-  number-none e = rw (next, eq-eqb _ _ e)
-
-  pub number-digits : getD l i 0 ≢ 0x20 → number (drop i l) ≡ digitsFrom 0 (drop i l)
-  number-digits e = rw (next, ne-eqb _ _ e)
-
-  pub word-end : hasWord [] (drop i l) ≡ isSpace (getD l i 0)
-  word-end = rw next
-
-  module _ (w : Bytes) (g : i < length w) where
-    pub word-differs : getD l i 0 ≢ getD w i 0 → hasWord (drop i w) (drop i l) ≡ false
-    word-differs e = rw (next, drop-next w i 0 g, ne-eqb _ _ e)
-
-    pub word-more : getD l i 0 ≡ getD w i 0 → hasWord (drop i w) (drop i l) ≡ hasWord (drop (i + 1) w) (drop (i + 1) l)
-    word-more e = rw (next, drop-next w i 0 g, eq-eqb _ _ e)
-
 -- ------------------------------------------------------------------ at the end
 module _ (l : Bytes) (i : ℕ) (h : length l ≤ i) where
   end : drop i l ≡ []
@@ -76,17 +60,31 @@ module _ (l : Bytes) (i : ℕ) (h : length l ≤ i) where
   pub digits-done : (n : ℕ) → digitsFrom n (drop i l) ≡ n
   digits-done n = rw end
 
-  pub number-end : number (drop i l) ≡ tooLarge
-  number-end = rw end
+-- ------------------------------------------------------------------ a word
+-- The byte at i, as the definitions have it.
+pub front-here : (l : Bytes) (i : ℕ) → i < length l → getD l i 0 ≡ front (drop i l)
+front-here l i h = rw (drop-next l i 0 h)
 
-  pub word-short : (w : Bytes) → i < length w → hasWord (drop i w) (drop i l) ≡ false
-  word-short w g = rw (end, drop-next w i 0 g)
+pub front-end : (l : Bytes) (i : ℕ) → length l ≤ i → 0x20 ≡ front (drop i l)
+front-end l i h = rw (drop-of-length-le l h)
 
-  pub word-whole : hasWord [] (drop i l) ≡ true
-  word-whole = rw end
+-- With c, the line's byte at i.
+module _ (w l : Bytes) (i : ℕ) {c : ℕ} (f : c ≡ front (drop i l)) where
+  module _ (h : i < length w) where
+    at-byte : hasWord (drop i w) (drop i l) ≡ (eqb c (getD w i 0) && (isSpace (getD w i 0) || hasWord (drop (i + 1) w) (drop (i + 1) l)))
+    at-byte = rw (drop-next w i 0 h, drop-drop 1 i l, f)
 
-pub word-done : (w l : Bytes) (i : ℕ) → length w ≤ i → hasWord (drop i w) (drop i l) ≡ hasWord [] (drop i l)
-word-done w l i h = rw (drop-of-length-le w {i = i} h)
+    pub word-differs : c ≢ getD w i 0 → hasWord (drop i w) (drop i l) ≡ false
+    word-differs e = rw (at-byte, ne-eqb _ _ e)
+
+    pub word-whole : c ≡ getD w i 0 → getD w i 0 ≡ 0x20 → hasWord (drop i w) (drop i l) ≡ true
+    word-whole e s = rw (at-byte, eq-eqb _ _ e, eq-eqb _ _ s)
+
+    pub word-more : c ≡ getD w i 0 → getD w i 0 ≢ 0x20 → hasWord (drop i w) (drop i l) ≡ hasWord (drop (i + 1) w) (drop (i + 1) l)
+    word-more e s = rw (at-byte, eq-eqb _ _ e, ne-eqb _ _ s)
+
+  pub word-end : length w ≤ i → hasWord (drop i w) (drop i l) ≡ isSpace c
+  word-end h = rw (drop-of-length-le w {i = i} h, f)
 
 -- ------------------------------------------------------------------ field by field
 pub field-first : (l : Bytes) → drop 0 l ≡ fromField 0 l
@@ -97,6 +95,10 @@ pub field-next : (l : Bytes) (n at : ℕ) → drop at l ≡ fromField n l → be
 unfolding fromField
 field-next l n at e = rw (e, add-one n)
 
--- Argument n, from where its field begins.
-pub argument-at : (l : Bytes) (n at : ℕ) {w : ℕ} → drop at l ≡ fromField n l → number (drop at l) ≡ w → w ≡ argument n l
-argument-at l n at e q = sym q ∙ rw e
+-- Argument n, from where its field begins, with its first byte c.
+module _ (l : Bytes) (n at : ℕ) {c : ℕ} (e : drop at l ≡ fromField n l) (f : c ≡ front (drop at l)) where
+  pub argument-none : c ≡ 0x20 → tooLarge ≡ argument n l
+  argument-none h = rw (← e, ← f, eq-eqb _ _ h)
+
+  pub argument-digits : {r : ℕ} → c ≢ 0x20 → r ≡ digitsFrom 0 (drop at l) → r ≡ argument n l
+  argument-digits h q = rw (← e, ← f, ne-eqb _ _ h) q

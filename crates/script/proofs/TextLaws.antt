@@ -1,7 +1,7 @@
 -- Digits written one byte after the other: what is left to write decides. And the digits at the front are what the definition
 -- says.
-use mathlib.Core.Path.{_≡_, refl, sym, _∙_}
-use mathlib.Core.List.{[], _∷_, _++_}
+use mathlib.Core.Path.{_≡_, refl}
+use mathlib.Core.List.{[], _∷_}
 use Prim.Native.Nat.{ℕ, suc, _+_, _*_, _/_, _%_, _≤_, _<_}
 use native.Mathlib.Nat.{zero-add}
 use native.Mathlib.Omega.{arith}
@@ -9,8 +9,8 @@ use borrow.Author.Tests.{le-ltb, lt-ltb}
 use lib.ListN.{length, take, drop, getD, set, length-take, drop-of-length-le}
 use lib.Seq.{sets, sets-eq, length-sets}
 use Rattle.sector.specs.Contents.{Bytes}
-use Rattle.sector.proofs.TestLaws.{drop-next}
-use Rattle.listing.specs.Writes.{ToPrint}
+use Rattle.lists.proofs.TestLaws.{drop-next}
+use Rattle.text.specs.Writes.{ToPrint}
 use Rattle.script.specs.Texts.{hexDigit, hexText, inHex}
 
 pub hex-length : (l : Bytes) → length (hexText l) ≡ 2 * length l

@@ -1,10 +1,11 @@
--- The fields of a line: "a word and decimal numbers with single spaces between them". A field is what stands between two
+-- The fields of a line: "a word and decimal numbers separated by single spaces". A field is what stands between two
 -- spaces; field 0 is the word, field i is argument i.
-use mathlib.Core.Bool.{Bool, true, false, _&&_}
+use mathlib.Core.Bool.{Bool, _&&_, _||_}
 use mathlib.Core.List.{[], _∷_}
 use Prim.Native.Nat.{ℕ, zero, suc, _+_, _*_, _-_, min}
 use lib.Dec.{eqb}
-use Rattle.sector.specs.Lists.{if_then_else_, between}
+use lib.ListN.{getD, drop}
+use Rattle.lists.specs.Lists.{if_then_else_, between}
 use Rattle.sector.specs.Contents.{Bytes}
 
 -- 20: a space
@@ -46,18 +47,19 @@ digitsFrom n (c ∷ l) =
     else if isDigit c then digitsFrom (min (10 * n + (c - 48)) tooLarge) l
     else tooLarge
 
+-- The byte at the front; behind the end of a line it is a space.
+abbrev pub front : Bytes → ℕ
+front l = getD l 0 0x20
+
 -- The number at the front: one digit or more, up to the next space.
 abbrev pub number : Bytes → ℕ
-number [] = tooLarge
-number (c ∷ l) = if isSpace c then tooLarge else digitsFrom 0 (c ∷ l)
+number l = if isSpace (front l) then tooLarge else digitsFrom 0 l
 
 -- Argument i, counted from 1.
 abbrev pub argument : ℕ → Bytes → ℕ
 argument i l = number (fromField i l)
 
--- The line's word is this one.
+-- The line's word is this one, up to its first space.
 abbrev pub hasWord : Bytes → Bytes → Bool
-hasWord [] [] = true
-hasWord [] (c ∷ l) = isSpace c
-hasWord (x ∷ w) [] = false
-hasWord (x ∷ w) (c ∷ l) = eqb c x && hasWord w l
+hasWord [] l = isSpace (front l)
+hasWord (x ∷ w) l = eqb (front l) x && (isSpace x || hasWord w (drop 1 l))

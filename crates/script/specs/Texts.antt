@@ -3,9 +3,9 @@ use mathlib.Core.List.{[], _∷_}
 use Prim.Native.Nat.{ℕ, _+_, _/_, _%_}
 use lib.Dec.{ltb}
 use lib.ListN.{length}
-use Rattle.sector.specs.Lists.{if_then_else_}
+use Rattle.lists.specs.Lists.{if_then_else_}
 use Rattle.sector.specs.Contents.{Bytes}
-use Rattle.listing.specs.Writes.{ToPrint, textFirst, nothingFirst}
+use Rattle.text.specs.Writes.{ToPrint, textFirst, nothingFirst}
 
 -- A digit in ASCII.
 abbrev pub hexDigit : ℕ → ℕ

@@ -1,8 +1,8 @@
-// The fields of a line: what stands between its spaces. Field 0 is the word, field i is argument i.
+// The fields of a line: what is between its spaces. Field 0 is the word, field i is argument i.
 ghost use mathlib.Core.Path.{_≡_};
 ghost use Prim.Native.Nat.{_+_, _*_, _-_, _≤_, min};
 ghost use lib.ListN.{length, drop};
-ghost use Rattle.script.specs.Fields.{spaces, behindSpace, fromField, digitsFrom, hasWord};
+ghost use Rattle.script.specs.Fields.{spaces, behindSpace, fromField, digitsFrom, front, hasWord};
 ghost use Rattle.script.specs.Fields;
 
 const SPACE: u8 = 0x20;
@@ -19,7 +19,7 @@ fn space(c: u8) -> usize
     0
 }
 
-// The number of arguments: one behind each space.
+// The number of arguments: one after each space.
 pub fn arguments(line: &[u8]) -> usize
     ensures { λ r. ⌜ r ≡ Fields.arguments (now (line .entry)) ⌝ }
 {
@@ -32,7 +32,7 @@ pub fn arguments(line: &[u8]) -> usize
     n
 }
 
-// Where the field behind the one at `at` begins; the end of the line if there is none.
+// Where the field after the one at `at` begins; the end of the line if there is none.
 fn next_field(line: &[u8], at: usize) -> usize
     requires { ⌜ at ≤ length (now line) ⌝ }
     ensures { λ r. ⌜ (drop r (now (line .entry)) ≡ behindSpace (drop at (now (line .entry)))) × (r ≤ length (now (line .entry))) ⌝ }
@@ -96,36 +96,42 @@ fn digits(line: &[u8], at: usize) -> u32
     n
 }
 
-// Argument n, counted from 1. It is wrong to take `12a` for 12, and wrong to take an argument that isn't there for 0.
+// The byte at i; behind the end of a line it is a space.
+fn byte_at(line: &[u8], i: usize) -> u8
+    ensures { λ r. ⌜ r ≡ front (drop i (now (line .entry))) ⌝ }
+{
+    if i < line.len() {
+        return line[i];
+    }
+    SPACE
+}
+
+// Argument n, counted from 1. Ruled out: `12a` taken for 12 (`must-fail/half_a_number`); a missing argument taken for
+// 0.
 pub fn argument(line: &[u8], n: usize) -> u32
     ensures { λ r. ⌜ r ≡ Fields.argument n (now (line .entry)) ⌝ }
 {
     let at = field(line, n);
-    if at == line.len() {
-        return TOO_LARGE;
-    }
-    if line[at] == SPACE {
+    if byte_at(line, at) == SPACE {
         return TOO_LARGE;
     }
     digits(line, at)
 }
 
-// Whether the line's word is this one. It is wrong to take `beginning 1` for `begin 1`.
+// Whether the line's word is this one, up to its first space. Ruled out: `beginning 1` taken for `begin 1`
+// (`must-fail/prefix_is_the_word`).
 pub fn has_word(line: &[u8], word: &[u8]) -> bool
     ensures { λ r. ⌜ r ≡ hasWord (now (word .entry)) (now (line .entry)) ⌝ }
 {
     let mut i = 0;
     while i < word.len() {
-        if i == line.len() {
+        if byte_at(line, i) != word[i] {
             return false;
         }
-        if line[i] != word[i] {
-            return false;
+        if word[i] == SPACE {
+            return true;
         }
         i += 1;
     }
-    if i == line.len() {
-        return true;
-    }
-    line[i] == SPACE
+    byte_at(line, i) == SPACE
 }

@@ -1,114 +1,82 @@
-// What a line asks for, by its word and the form of its arguments.
-use crate::Form;
+// What a line asks for, by its word and its arguments.
 use crate::Kind;
+use crate::Row;
 use crate::fields::argument;
 use crate::fields::arguments;
 use crate::fields::has_word;
 ghost use mathlib.Core.Path.{_≡_};
-ghost use Prim.Native.Nat.{_≤_};
-ghost use Rattle.script.specs.Kinds.{otherKind, wordKind, formOf, limit, argumentsFit, kindOf};
+ghost use mathlib.Core.List.{_∷_};
+ghost use Prim.Native.Nat.{_+_, _<_};
+ghost use lib.ListN.{length, drop};
+ghost use Rattle.script.specs.Kinds.{rows, argumentsFit, kindOf};
 ghost use Rattle.script.specs.Kinds;
 
-// What a line asks for whose word is no call's.
-fn other_kind(line: &[u8]) -> Kind
-    ensures { λ r. ⌜ r ≡ otherKind (now (line .entry)) ⌝ }
+// The most that an argument may be: any byte, a volume's length, an address and a sector in the longest volume, the length of a
+// write's data, and a session.
+const B: u32 = 255;
+
+const LENGTH: u32 = 262400;
+
+const ADDRESS: u32 = 262399;
+
+const SECTOR: u32 = 1024;
+
+const DATA: u32 = 512;
+
+const SESSION: u32 = 15;
+
+const ROWS: [Row; 11] = [
+    Row(Kind::Format, *b"format    ", 2, 66, LENGTH, B, B, B, B),
+    Row(Kind::Begin, *b"begin     ", 1, 2, B, B, B, B, B),
+    Row(Kind::Open, *b"open      ", 2, 3, B, B, B, B, B),
+    Row(Kind::Write, *b"write     ", 5, 6, B, B, B, B, DATA),
+    Row(Kind::Commit, *b"commit    ", 1, 2, B, B, B, B, B),
+    Row(Kind::Abort, *b"abort     ", 1, 2, B, B, B, B, B),
+    Row(Kind::Read, *b"read      ", 3, 3, B, B, B, B, B),
+    Row(Kind::Session, *b"session   ", 1, 1, SESSION, B, B, B, B),
+    Row(Kind::Poke, *b"poke      ", 2, 2, ADDRESS, B, B, B, B),
+    Row(Kind::Dump, *b"dump      ", 1, 1, SECTOR, B, B, B, B),
+    Row(Kind::List, *b"list      ", 0, 0, B, B, B, B, B),
+];
+
+// Row i.
+fn row_at(i: usize) -> Row
+    requires { ⌜ i < length rows ⌝ }
+    ensures { λ r. ⌜ drop i rows ≡ r ∷ drop (i + 1) rows ⌝ }
 {
-    if has_word(line, b"format") {
-        return Kind::Format;
-    }
-    if has_word(line, b"session") {
-        return Kind::Session;
-    }
-    if has_word(line, b"poke") {
-        return Kind::Poke;
-    }
-    if has_word(line, b"dump") {
-        return Kind::Dump;
-    }
-    if has_word(line, b"list") {
-        return Kind::List;
-    }
-    Kind::Unknown
+    ROWS[i]
 }
 
-// What a line asks for, by its word alone.
-fn word_kind(line: &[u8]) -> Kind
-    ensures { λ r. ⌜ r ≡ wordKind (now (line .entry)) ⌝ }
-{
-    if has_word(line, b"begin") {
-        return Kind::Begin;
-    }
-    if has_word(line, b"open") {
-        return Kind::Open;
-    }
-    if has_word(line, b"write") {
-        return Kind::Write;
-    }
-    if has_word(line, b"commit") {
-        return Kind::Commit;
-    }
-    if has_word(line, b"abort") {
-        return Kind::Abort;
-    }
-    if has_word(line, b"read") {
-        return Kind::Read;
-    }
-    other_kind(line)
-}
-
-// A form.
-fn takes(least: usize, most: usize, first: u32, fifth: u32) -> Form
-    ensures { λ r. ⌜ r ≡ record { least = least; most = most; first = first; fifth = fifth } ⌝ }
-{
-    Form {
-        least: least,
-        most: most,
-        first: first,
-        fifth: fifth,
-    }
-}
-
-// The form of a line's arguments.
-fn form(k: Kind) -> Form
-    ensures { λ r. ⌜ r ≡ formOf k ⌝ }
-{
-    match k {
-        Kind::Format => takes(2, 66, 262400, 255),
-        Kind::Begin => takes(1, 2, 255, 255),
-        Kind::Open => takes(2, 3, 255, 255),
-        Kind::Write => takes(5, 6, 255, 512),
-        Kind::Commit => takes(1, 2, 255, 255),
-        Kind::Abort => takes(1, 2, 255, 255),
-        Kind::Read => takes(3, 3, 255, 255),
-        Kind::Session => takes(1, 1, 15, 255),
-        Kind::Poke => takes(2, 2, 262399, 255),
-        Kind::Dump => takes(1, 1, 1024, 255),
-        Kind::List => takes(0, 0, 255, 255),
-        Kind::Unknown => takes(1, 0, 255, 255),
-    }
-}
-
-// The largest that argument i may be.
-fn limit(x: Form, i: usize) -> u32
+// The most that the argument behind i others may be.
+fn limit(x: Row, i: usize) -> u32
     ensures { λ r. ⌜ r ≡ Kinds.limit x i ⌝ }
 {
+    if i == 0 {
+        return x.4;
+    }
     if i == 1 {
-        return x.first;
+        return x.5;
     }
-    if i == 5 {
-        return x.fifth;
+    if i == 2 {
+        return x.6;
     }
-    255
+    if i == 3 {
+        return x.7;
+    }
+    if i == 4 {
+        return x.8;
+    }
+    B
 }
 
-// Whether the first n arguments are small enough.
-fn arguments_fit(line: &[u8], x: Form, n: usize) -> bool
-    requires { ⌜ n ≤ 66 ⌝ }
+// Whether the first n arguments are what they may be.
+fn arguments_fit(line: &[u8], x: Row, n: usize) -> bool
     ensures { λ r. ⌜ r ≡ argumentsFit x (now (line .entry)) n ⌝ }
 {
-    let mut i = 1;
-    while i <= n {
-        if limit(x, i) < argument(line, i) {
+    let mut i = 0;
+    while i < n {
+        let a = argument(line, i + 1);
+        if limit(x, i) < a {
             return false;
         }
         i += 1;
@@ -116,21 +84,35 @@ fn arguments_fit(line: &[u8], x: Form, n: usize) -> bool
     true
 }
 
-// What a line asks for. It is wrong to take a line with a number too many, or with a larger one than its place allows.
+// Whether the line is one of the row's. Ruled out: a line with a number too many; one with a larger number than its place allows
+// (`must-fail/data_of_513`).
+fn fits(line: &[u8], x: Row) -> bool
+    ensures { λ r. ⌜ r ≡ Kinds.fits x (now (line .entry)) ⌝ }
+{
+    if !has_word(line, &x.1) {
+        return false;
+    }
+    let n = arguments(line);
+    if n < x.2 {
+        return false;
+    }
+    if x.3 < n {
+        return false;
+    }
+    arguments_fit(line, x, n)
+}
+
+// What a line asks for.
 pub fn kind(line: &[u8]) -> Kind
     ensures { λ r. ⌜ r ≡ kindOf (now (line .entry)) ⌝ }
 {
-    let k = word_kind(line);
-    let x = form(k);
-    let n = arguments(line);
-    if n < x.least {
-        return Kind::Unknown;
+    let mut i = 0;
+    while i < ROWS.len() {
+        let x = row_at(i);
+        if fits(line, x) {
+            return x.0;
+        }
+        i += 1;
     }
-    if x.most < n {
-        return Kind::Unknown;
-    }
-    if !arguments_fit(line, x, n) {
-        return Kind::Unknown;
-    }
-    k
+    Kind::Unknown
 }

@@ -20,10 +20,16 @@ pub enum Kind {
     Unknown,
 }
 
-// The least and the most arguments of a line, and the largest that its first and its fifth may be; any other is a byte.
-pub struct Form {
-    pub least: usize,
-    pub most: usize,
-    pub first: u32,
-    pub fifth: u32,
-}
+// A row of the table of lines: the kind, the word with spaces behind it, the least and the most arguments, and the most
+// that each of the first five may be; any other is a byte.
+pub struct Row(
+    pub Kind,
+    pub [u8; 10],
+    pub usize,
+    pub usize,
+    pub u32,
+    pub u32,
+    pub u32,
+    pub u32,
+    pub u32,
+);

@@ -1,7 +1,8 @@
-// Bytes as uppercase hexadecimal digits. It is wrong to write lowercase letters, and wrong to write the low digit first.
+// Bytes as uppercase hexadecimal digits. Ruled out: lowercase letters (`must-fail/lowercase_digits`); the low digit
+// first.
 ghost use mathlib.Core.Path.{_≡_};
 ghost use Prim.Native.Nat.{_+_, _*_, _/_, _%_, _≤_, _<_};
-ghost use lib.ListN.{length, take, set};
+ghost use lib.ListN.{length, take};
 ghost use lib.Seq.{sets};
 ghost use Rattle.script.specs.Texts.{hexDigit, hexText, inHex};
 
@@ -37,7 +38,7 @@ fn put_hex(bytes: &[u8], out: &mut [u8])
     }
 }
 
-// Writes two digits for each byte to the front of `out`, and hands back how many; without room for them, nothing is written.
+// Writes two digits for each byte to the front of `out`, and hands back how many; if they don't fit, writes nothing.
 pub fn hex(bytes: &[u8], out: &mut [u8]) -> usize
     ensures { λ r. ⌜ (record { count = r; out = now (out .exit) }) ≡ inHex (now (bytes .entry)) (now (out .entry)) ⌝ }
     ensures { λ r. ⌜ (r ≤ length (now (out .exit))) × (r ≡ length (take r (now (out .exit)))) ⌝ }

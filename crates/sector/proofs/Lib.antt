@@ -1,9 +1,10 @@
-pub mod ListLaws
 pub mod SectorLaws
 pub mod CodecLaws
 pub mod PartLaws
 pub mod EditLaws
-pub mod CaseLaws
-pub mod SearchLaws
-pub mod TestLaws
+pub mod ShapeLaws
+pub mod PutsLaws
+pub mod FreshLaws
+pub mod EncodedLaws
+pub mod RecognizeLaws
 pub mod SectorExamples

@@ -3,16 +3,18 @@
 use mathlib.Core.Path.{_≡_, refl}
 use mathlib.Core.Bool.{Bool, true, false}
 use mathlib.Core.List.{List, [], _∷_, _++_, map}
-use mathlib.Core.Option.{Option, none, some}
+use mathlib.Core.Option.{none, some}
 use Prim.Native.Nat.{ℕ}
 use lib.Dec.{eqb, ltb}
-use lib.ListN.{replicate}
-use Rattle.sector.specs.Lists.{if_then_else_, between, all, first, every, any, filter, find, isSome, distinct, member, same, from}
+use lib.ListN.{replicate, set}
+use Rattle.lists.specs.Lists.{if_then_else_, between, all, first, every, any, filter, find, isSome, distinct, member, same, from}
+use Rattle.sector.specs.Layout.{sectorLimit, clientLimit, fileLimit, pageLimit, slotLimit, entryLimit}
 use Rattle.sector.specs.Contents.{Bytes, File, Table, Entry, Record, Header, firstHeader, nextHeader, isIdle, isOpen, isDecidedRecord, idleRecord, openRecord, decidedRecord, appended}
 use Rattle.sector.specs.Entries.{forFile, forPage, givesSlot, redone, pagesBelow, filePagesBelow}
-use Rattle.sector.specs.Sectors.{Volume, sector, storeAt, byte, word, wordBytes, padded, zeroSector}
+use Rattle.sector.specs.Sectors.{sector, storeAt, byte, word, wordBytes, padded, zeroSector}
 use Rattle.sector.specs.Encoding.{fileBytes, encodeTable, entryBytes, encodeRecord, encodeHeader}
 use Rattle.sector.specs.Decoding.{sectorsIn, clientsIn, fileCountIn, headerSectorIn, fileIn, decodeFiles, decodeTable, stateIn, countIn, entryIn, decodeEntries, decodeRecord, holderIn, mapIn, decodeHeader}
+use Rattle.sector.specs.Encoded.{isTableEncoding, isRecordEncoding, isHeaderEncoding}
 use Rattle.sector.specs.Edits.{entryApplied, entriesApplied}
 
 -- ------------------------------------------------------------------ Lists
@@ -78,7 +80,7 @@ numbers-from = refl
 
 -- ------------------------------------------------------------------ Sectors
 -- Two sectors and 2 bytes.
-abbrev volume : Volume
+abbrev volume : Bytes
 volume = replicate 256 1 ++ (replicate 256 2 ++ (3 ∷ 4 ∷ []))
 
 -- "Sector s is the 256 bytes from 256 × s."
@@ -111,6 +113,11 @@ padding = refl
 zeros : zeroSector ≡ replicate 256 0
 unfolding zeroSector
 zeros = refl
+
+-- ------------------------------------------------------------------ Layout
+-- "N at most 1,024"; "1 to 4"; "1 to 16"; "1 to 120"; "P to 240"; "0 to 62".
+limits : sectorLimit ∷ clientLimit ∷ fileLimit ∷ pageLimit ∷ slotLimit ∷ entryLimit ∷ [] ≡ 1024 ∷ 4 ∷ 16 ∷ 120 ∷ 240 ∷ 62 ∷ []
+limits = refl
 
 -- ------------------------------------------------------------------ Contents
 abbrev entry : ℕ → ℕ → ℕ → Entry
@@ -260,6 +267,26 @@ header-read = refl
 header-fields : holderIn (headerBytes 9) ∷ mapIn (headerBytes 9) 0 ∷ mapIn (headerBytes 9) 1 ∷ [] ≡ 3 ∷ 5 ∷ 1 ∷ []
 unfolding padded
 header-fields = refl
+
+-- ------------------------------------------------------------------ Encoded
+-- With its mark, its zero bytes and each header where the files before end; so not with a 9 in one of these places. A byte of
+-- the state, of an entry, of the holder or of the map may be any.
+tables : map (λ i. isTableEncoding (set tableBytes i 9)) (0 ∷ 1 ∷ 6 ∷ 7 ∷ 12 ∷ 13 ∷ 20 ∷ 255 ∷ []) ≡ replicate 8 false
+unfolding encodeTable fileBytes decodeTable decodeFiles padded
+tables = refl
+
+records : map (λ i. isRecordEncoding (set recordBytes i 9)) (0 ∷ 1 ∷ 4 ∷ 7 ∷ 11 ∷ 15 ∷ 16 ∷ 255 ∷ []) ≡ replicate 8 false
+unfolding encodeRecord entryBytes decodeRecord decodeEntries padded
+records = refl
+
+headers : map (λ i. isHeaderEncoding twoPages (set (headerBytes 0) i 9)) (0 ∷ 1 ∷ 3 ∷ 7 ∷ 10 ∷ 255 ∷ []) ≡ replicate 6 false
+unfolding encodeHeader decodeHeader padded
+headers = refl
+
+encodings : isTableEncoding tableBytes ∷ isRecordEncoding (set (set recordBytes 2 9) 8 9) ∷ isHeaderEncoding twoPages (set (set (headerBytes 0) 2 9) 9 9) ∷ []
+    ≡ replicate 3 true
+unfolding encodeTable fileBytes decodeTable decodeFiles encodeRecord entryBytes decodeRecord decodeEntries encodeHeader decodeHeader padded
+encodings = refl
 
 -- ------------------------------------------------------------------ Edits
 -- The slot goes to the page's place in the map, byte 8 + p, if the entry is for the file.

@@ -1,10 +1,12 @@
-// Readers of a sector, and of the fields of a control sector by their places. Each takes the 256 bytes of the sector.
+// Readers of a sector, and of the fields of a control sector by position. Each takes the 256 bytes of the sector.
 ghost use mathlib.Core.Path.{_≡_};
 ghost use Prim.Native.Nat.{_+_, _*_, _≤_, _<_, _%_};
 ghost use lib.ListN.{length};
+ghost use Rattle.sector.specs.Layout.{itemsRoom, entryLimit};
 ghost use Rattle.sector.specs.Sectors.{sector, byte, word};
 ghost use Rattle.sector.specs.Decoding.{sectorsIn, clientsIn, fileCountIn, headerSectorIn, fileIn, stateIn, countIn, entryIn, holderIn, mapIn};
-use crate::Sector;
+use crate::layout::Offset;
+use crate::layout::Sector;
 
 // Sector s of the volume.
 pub fn part(v: &[u8], s: usize) -> &[u8]
@@ -24,7 +26,7 @@ pub fn low(n: usize) -> u8
 }
 
 // A byte as a number for indices and sums.
-pub fn size(x: u8) -> usize
+pub fn wide(x: u8) -> usize
     ensures { λ r. ⌜ (r ≡ x) × (r < 256) ⌝ }
 {
     x as usize
@@ -35,7 +37,7 @@ pub fn word_at(d: &[u8], i: usize) -> usize
     requires { ⌜ (length (now d) ≡ 256) × (i < 255) ⌝ }
     ensures { λ r. ⌜ (r ≡ word (now (d .entry)) i) × (r < 65536) × (byte (now (d .entry)) i < 256) ⌝ }
 {
-    size(d[i]) + 256 * size(d[i + 1])
+    wide(d[i]) + 256 * wide(d[i + 1])
 }
 
 // Sector 0: the sectors of the volume.
@@ -43,7 +45,7 @@ pub fn table_sectors(d: &[u8]) -> usize
     requires { ⌜ length (now d) ≡ 256 ⌝ }
     ensures { λ r. ⌜ (r ≡ sectorsIn (now (d .entry))) × (r < 65536) ⌝ }
 {
-    word_at(d, 2)
+    word_at(d, Offset::SECTORS)
 }
 
 // Its clients.
@@ -51,7 +53,7 @@ pub fn table_clients(d: &[u8]) -> u8
     requires { ⌜ length (now d) ≡ 256 ⌝ }
     ensures { λ r. ⌜ r ≡ clientsIn (now (d .entry)) ⌝ }
 {
-    d[4]
+    d[Offset::CLIENTS]
 }
 
 // Its files.
@@ -59,31 +61,31 @@ pub fn table_files(d: &[u8]) -> u8
     requires { ⌜ length (now d) ≡ 256 ⌝ }
     ensures { λ r. ⌜ r ≡ fileCountIn (now (d .entry)) ⌝ }
 {
-    d[5]
+    d[Offset::FILES]
 }
 
 // The header sector of the file with index i, which counts from 0.
 pub fn file_header(d: &[u8], i: usize) -> usize
-    requires { ⌜ (length (now d) ≡ 256) × (i < 62) ⌝ }
+    requires { ⌜ (length (now d) ≡ 256) × (i < entryLimit) ⌝ }
     ensures { λ r. ⌜ (r ≡ headerSectorIn (now (d .entry)) i) × (r < 65536) ⌝ }
 {
-    word_at(d, 8 + 4 * i)
+    word_at(d, Offset::ITEMS + Offset::ITEM * i)
 }
 
 // Its pages.
 pub fn file_pages(d: &[u8], i: usize) -> u8
-    requires { ⌜ (length (now d) ≡ 256) × (i < 62) ⌝ }
+    requires { ⌜ (length (now d) ≡ 256) × (i < entryLimit) ⌝ }
     ensures { λ r. ⌜ r ≡ fileIn (now (d .entry)) i .pages ⌝ }
 {
-    d[8 + 4 * i + 2]
+    d[Offset::ITEMS + Offset::ITEM * i + Offset::PAGES]
 }
 
 // Its slots.
 pub fn file_slots(d: &[u8], i: usize) -> u8
-    requires { ⌜ (length (now d) ≡ 256) × (i < 62) ⌝ }
+    requires { ⌜ (length (now d) ≡ 256) × (i < entryLimit) ⌝ }
     ensures { λ r. ⌜ r ≡ fileIn (now (d .entry)) i .slots ⌝ }
 {
-    d[8 + 4 * i + 3]
+    d[Offset::ITEMS + Offset::ITEM * i + Offset::SLOTS]
 }
 
 // An intentions record's state.
@@ -91,7 +93,7 @@ pub fn record_state(d: &[u8]) -> u8
     requires { ⌜ length (now d) ≡ 256 ⌝ }
     ensures { λ r. ⌜ r ≡ stateIn (now (d .entry)) ⌝ }
 {
-    d[2]
+    d[Offset::STATE]
 }
 
 // The number of its entries.
@@ -99,31 +101,31 @@ pub fn record_count(d: &[u8]) -> u8
     requires { ⌜ length (now d) ≡ 256 ⌝ }
     ensures { λ r. ⌜ r ≡ countIn (now (d .entry)) ⌝ }
 {
-    d[3]
+    d[Offset::COUNT]
 }
 
 // The file of the entry with index i, which counts from 0.
 pub fn entry_file(d: &[u8], i: usize) -> u8
-    requires { ⌜ (length (now d) ≡ 256) × (i < 62) ⌝ }
+    requires { ⌜ (length (now d) ≡ 256) × (i < entryLimit) ⌝ }
     ensures { λ r. ⌜ r ≡ entryIn (now (d .entry)) i .file ⌝ }
 {
-    d[8 + 4 * i]
+    d[Offset::ITEMS + Offset::ITEM * i]
 }
 
 // Its page.
 pub fn entry_page(d: &[u8], i: usize) -> u8
-    requires { ⌜ (length (now d) ≡ 256) × (i < 62) ⌝ }
+    requires { ⌜ (length (now d) ≡ 256) × (i < entryLimit) ⌝ }
     ensures { λ r. ⌜ r ≡ entryIn (now (d .entry)) i .page ⌝ }
 {
-    d[8 + 4 * i + 1]
+    d[Offset::ITEMS + Offset::ITEM * i + Offset::PAGE]
 }
 
 // Its slot.
 pub fn entry_slot(d: &[u8], i: usize) -> u8
-    requires { ⌜ (length (now d) ≡ 256) × (i < 62) ⌝ }
+    requires { ⌜ (length (now d) ≡ 256) × (i < entryLimit) ⌝ }
     ensures { λ r. ⌜ r ≡ entryIn (now (d .entry)) i .slot ⌝ }
 {
-    d[8 + 4 * i + 2]
+    d[Offset::ITEMS + Offset::ITEM * i + Offset::SLOT]
 }
 
 // A file header's holder.
@@ -131,13 +133,13 @@ pub fn header_holder(d: &[u8]) -> u8
     requires { ⌜ length (now d) ≡ 256 ⌝ }
     ensures { λ r. ⌜ r ≡ holderIn (now (d .entry)) ⌝ }
 {
-    d[2]
+    d[Offset::HOLDER]
 }
 
 // The slot that its map has for page p.
 pub fn map_slot(d: &[u8], p: usize) -> u8
-    requires { ⌜ (length (now d) ≡ 256) × (p < 248) ⌝ }
+    requires { ⌜ (length (now d) ≡ 256) × (p < itemsRoom) ⌝ }
     ensures { λ r. ⌜ r ≡ mapIn (now (d .entry)) p ⌝ }
 {
-    d[8 + p]
+    d[Offset::ITEMS + p]
 }

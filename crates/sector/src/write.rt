@@ -1,9 +1,9 @@
-// The one store: each call but format changes a volume by it alone. It goes byte by byte, and its contract says what it leaves.
+// The one store: every call but format changes a volume by it alone. It goes byte by byte; its contract has the result.
 ghost use mathlib.Core.Path.{_≡_};
 ghost use Prim.Native.Nat.{_+_, _*_, _≤_};
 ghost use lib.ListN.{length};
 ghost use Rattle.sector.specs.Sectors.{storeAt};
-use crate::Sector;
+use crate::layout::Sector;
 
 // The part's 256 bytes become those of src.
 pub fn replace(part: &mut [u8], src: &[u8])

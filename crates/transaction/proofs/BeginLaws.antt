@@ -4,7 +4,7 @@ use mathlib.Core.Bool.{Bool, true, false, not}
 use mathlib.Core.List.{List, [], _∷_, _++_}
 use Prim.Native.Nat.{ℕ}
 use Rattle.interface.specs.declared.Session.{Session}
-use Rattle.sector.specs.Lists.{if_then_else_}
+use Rattle.lists.specs.Lists.{if_then_else_}
 use Rattle.sector.specs.Contents.{isIdle, openRecord}
 use Rattle.volume.specs.Views.{View, Update, setRecord}
 use Rattle.rules.specs.Sessions.{isActive}

@@ -1,5 +1,5 @@
 pub mod BeginLaws
 pub mod OpenLaws
-pub mod WriteLaws
+pub mod WriteStoreLaws
 pub mod CommitLaws
 pub mod TestedLaws

@@ -1,29 +1,29 @@
 -- Open's updates by the file's holder, and that the header stored after a recovery has the map which the plan says.
 use mathlib.Core.Path.{_≡_, sym, ap, _∙_}
 use mathlib.Core.Bool.{Bool, true, false}
-use mathlib.Core.List.{[], _∷_, _++_}
+use mathlib.Core.List.{List, [], _∷_, _++_}
 use mathlib.Core.Logic.{_≢_}
-use Prim.Native.Nat.{ℕ, _+_, _-_}
+use Prim.Native.Nat.{ℕ}
 use native.Mathlib.Omega.{arith}
 use borrow.Author.Tests.{eq-eqb, ne-eqb}
 use Rattle.interface.specs.declared.Session.{Session}
 use Rattle.sector.specs.Contents.{Header}
-use Rattle.sector.specs.Sectors.{Volume}
 use Rattle.volume.specs.Places.{IsClient, IsFile}
-use Rattle.volume.specs.Views.{View, setHeader}
+use Rattle.volume.specs.Views.{View, Update, setHeader, changedBy}
 use Rattle.volume.specs.Lawful.{headerFits}
-use Rattle.volume.specs.Volumes.{view}
-use Rattle.volume.specs.Known.{Known}
+use Rattle.volume.specs.Volumes.{Volume, view}
+use Rattle.volume.specs.WellFormed.{WellFormed}
 use Rattle.volume.proofs.LawfulLaws.{HeaderFacts, header-facts}
 use Rattle.rules.specs.Recovery.{isDecided, mapAfter, recovery}
 use Rattle.rules.specs.Plans.{openFile, openPlan, plan}
 use Rattle.rules.specs.Refusals.{heldByOther}
 use Rattle.rules.proofs.AllowedLaws.{holder-orphaned}
-use Rattle.recovery.specs.Budget.{Made}
+use Rattle.stores.specs.declared.Run.{Run}
+use Rattle.stores.specs.Runs.{UpdatesMade, AllMade}
+use Rattle.stores.proofs.MadeLaws.{all-table, made-same, made-more}
 use Rattle.recovery.specs.Work.{recoveryNow}
-use Rattle.recovery.proofs.MadeLaws.{Suits, made-cut, made-known, made-view, made-table, made-more}
 use Rattle.recovery.proofs.WorkLaws.{now-live}
-use Rattle.recovery.proofs.RecoveredLaws.{recovery-suits, recovered-header}
+use Rattle.recovery.proofs.ReleaseLaws.{recovered-header}
 
 module _ (a : View) (s : Session) (k f : ℕ) where
   pub own-plan : a .headers f .holder ≡ k → plan a s (openFile k f) ≡ []
@@ -43,7 +43,7 @@ module _ (a : View) (s : Session) (k f : ℕ) where
   held-plan facts free n z = rw (ne-eqb _ k n, holder-orphaned a s k f facts free n, ne-eqb _ 0 z)
 
 -- Another client, h, holds the file.
-module _ {v : Volume} (known : Known v) {k f h : ℕ} (file : IsFile (view v .table) f)
+module _ {v : Volume} (formed : WellFormed v) {k f h : ℕ} (file : IsFile (view v .table) f)
     (fits : headerFits (view v .records) (view v .table) f (view v .headers f) ≡ true) (e : view v .headers f .holder ≡ h)
     (n : h ≢ k) (z : h ≢ 0) where
   facts : HeaderFacts (view v .table) (view v .records) f (view v .headers f)
@@ -65,29 +65,15 @@ module _ {v : Volume} (known : Known v) {k f h : ℕ} (file : IsFile (view v .ta
       ≡ recovery redo (view v) h ++ (setHeader f (record { holder = k; map = mapAfter redo (view v) h f }) ∷ [])
   whole s free = rw e at (held-plan (view v) s k f facts free (rw e n) some)
 
-  suits : Suits (view v .table) (recovery redo (view v) h)
-  suits = recovery-suits v known h holder-client redo
+  module _ {w : Volume} {r q : Run} (m : UpdatesMade v r (recoveryNow (view v) h) w q)
+      (done : q .crashed ≡ false → AllMade v (recoveryNow (view v) h) w) where
+    pub recovered-formed : q .crashed ≡ false → WellFormed w × IsFile (view w .table) f
+    recovered-formed c = (done c .formed, rw (all-table _ (done c)) file)
 
-  module _ {budget : ℕ} {w : Volume} {m : ℕ} where
-    pub open-cut : Made budget v (recoveryNow (view v) h) w m true → (s : Session) → heldByOther (view v) s k f ≡ false
-        → Made budget v (plan (view v) s (openFile k f)) w m true
-    open-cut r s free = rw (whole s free) (made-cut _ _ (rw now at r))
+    map-now : q .crashed ≡ false → view w .headers f .map ≡ mapAfter redo (view v) h f
+    map-now c = ap (λ (a : View). a .headers f .map) (done c .seen) ∙ ap (λ (xs : List Update). changedBy (view v) xs .headers f .map) now
+        ∙ ap (λ (x : Header). x .map) (recovered-header redo (view v) h f file e)
 
-    module _ (r : Made budget v (recoveryNow (view v) h) w m false) where
-      first : Made budget v (recovery redo (view v) h) w m false
-      first = rw now at r
-
-      pub recovered-known : Known w
-      recovered-known = made-known _ known suits first
-
-      pub recovered-file : IsFile (view w .table) f
-      recovered-file = rw (made-table _ known suits first) file
-
-      map-now : view w .headers f .map ≡ mapAfter redo (view v) h f
-      map-now = ap (λ (x : Header). x .map)
-          (ap (λ (a : View). a .headers f) (made-view _ known suits first) ∙ recovered-header redo (view v) h f file e)
-
-      pub open-more : {u : Volume} {l : ℕ} {crashed : Bool}
-          → Made (budget - m) w (setHeader f (record { holder = k; map = view w .headers f .map }) ∷ []) u l crashed
-          → (s : Session) → heldByOther (view v) s k f ≡ false → Made budget v (plan (view v) s (openFile k f)) u (m + l) crashed
-      open-more q s free = rw (whole s free) (made-more _ known suits first _ (rw map-now at q))
+    pub open-more : {u : Volume} {l : Run} → UpdatesMade w q (setHeader f (record { holder = k; map = view w .headers f .map }) ∷ []) u l
+        → (s : Session) → heldByOther (view v) s k f ≡ false → UpdatesMade v r (plan (view v) s (openFile k f)) u l
+    open-more n s free = rw (whole s free) (made-more (λ c. all-table _ (done c)) (rw now at m) (made-same (λ c. rw (map-now c)) n))

@@ -12,9 +12,9 @@ use Rattle.sector.specs.Contents.{Bytes, Entry}
 use Rattle.volume.specs.Places.{IsClient, fileAt}
 use Rattle.volume.specs.Views.{View}
 use Rattle.volume.specs.Lawful.{headerFits}
-use Rattle.volume.proofs.LawfulLaws.{RecordFacts, entry-facts, header-fits}
+use Rattle.volume.proofs.LawfulLaws.{entry-facts, header-fits}
 use Rattle.rules.specs.Plans.{entryFor, chosen}
-use Rattle.rules.proofs.AllowedLaws.{MayBegin, MayAct, MayOpen, MayWrite}
+use Rattle.rules.proofs.AllowedLaws.{MayBegin, MayAct, MayOpen, MayWrite, own-record}
 use Rattle.rules.proofs.ChoiceLaws.{chosen-free}
 use Rattle.transaction.specs.Tested.{NewPage}
 
@@ -29,11 +29,8 @@ module _ {a : View} {s : Session} {k : ℕ} where
   open-header {f} w = header-fits (a .table) (a .records) f (a .headers f) (w .act .ready .laws .headers f (w .file))
 
   module _ {f p : ℕ} {d : Bytes} (w : MayWrite a s k f p d) where
-    own : RecordFacts (a .table) (a .records k)
-    own = w .place .act .ready .laws .records k (w .place .act .active .low) (w .place .act .running .client)
-
     pub old-slot : (e : Entry) → entryFor a k f p ≡ some e → e .slot < fileAt (a .table) f .slots
-    old-slot e found = entry-facts own f p e found .slot
+    old-slot e found = entry-facts (own-record (w .place .act)) f p e found .slot
 
     pub new-page : entryFor a k f p ≡ none → NewPage a k f p (chosen a k f p)
     new-page absent =
@@ -44,5 +41,5 @@ module _ {a : View} {s : Session} {k : ℕ} where
           absent = absent;
           lowest = refl;
           below = chosen-free a k f p (rw absent at (w .room)) .below;
-          room = omega (arith, own .few);
+          room = omega (arith, own-record (w .place .act) .few);
         }

@@ -3,6 +3,7 @@ use mathlib.Core.Path.{_≡_}
 use mathlib.Core.Option.{none}
 use Prim.Native.Nat.{ℕ, _<_}
 use lib.ListN.{length}
+use Rattle.sector.specs.Layout.{entryLimit}
 use Rattle.volume.specs.Places.{IsClient, IsFile, fileAt}
 use Rattle.volume.specs.Views.{View}
 use Rattle.rules.specs.Plans.{entryFor, chosen}
@@ -14,4 +15,4 @@ pub record NewPage (a : View) (k f p slot : ℕ) : Type 0 where
   pub absent : entryFor a k f p ≡ none
   pub lowest : slot ≡ chosen a k f p
   pub below : slot < fileAt (a .table) f .slots
-  pub room : length (a .records k .entries) < 62
+  pub room : length (a .records k .entries) < entryLimit

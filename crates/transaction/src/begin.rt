@@ -4,25 +4,20 @@ ghost use mathlib.Core.Bool.{false};
 ghost use Rattle.interface.specs.declared.Session.{Session};
 ghost use Rattle.volume.specs.Places.{IsClient};
 ghost use Rattle.volume.specs.Volumes.{view};
-ghost use Rattle.volume.specs.Known.{Known};
+ghost use Rattle.volume.specs.WellFormed.{WellFormed};
 ghost use Rattle.rules.specs.Sessions.{isActive};
 ghost use Rattle.rules.specs.Plans.{begin, plan};
-ghost use Rattle.recovery.specs.Budget.{Made};
-use recovery::Run;
+ghost use Rattle.stores.specs.Runs.{newRun, UpdatesMade};
+use sector::State;
+use stores::Run;
 
-// The stores of begin for client k: what a transaction that was running left is recovered, then the record is open.
+// The stores of begin for client k: what an orphaned transaction left is recovered, then the record is opened.
 pub fn begin_stores(v: &mut [u8], k: u8, budget: u8) -> Run
-    requires { ⌜ Known (now v) × IsClient (view (now v) .table) k ⌝ }
+    requires { ⌜ WellFormed (now v) × IsClient (view (now v) .table) k ⌝ }
     ensures { λ r. ⌜ ((s : Session) → isActive s k ≡ false
-        → Made budget (now (v .entry)) (plan (view (now (v .entry))) s (begin k)) (now (v .exit)) (r .made) (r .crashed)) ⌝ }
+        → UpdatesMade (now (v .entry)) (newRun budget) (plan (view (now (v .entry))) s (begin k)) (now (v .exit)) r) ⌝ }
 {
-    let first = recovery::recover(v, k, budget);
-    if first.crashed {
-        return first;
-    }
-    let last = recovery::store_empty_record(v, k, 1, budget - first.made);
-    Run {
-        made: first.made + last.made,
-        crashed: last.crashed,
-    }
+    let start = Run::new(budget);
+    let run = recovery::recover(v, k, start);
+    recovery::put_empty_record(v, k, State::OPEN, run)
 }

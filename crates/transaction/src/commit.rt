@@ -5,40 +5,30 @@ ghost use Rattle.sector.specs.Contents.{decidedRecord};
 ghost use Rattle.volume.specs.Places.{IsClient};
 ghost use Rattle.volume.specs.Views.{setRecord};
 ghost use Rattle.volume.specs.Volumes.{view};
-ghost use Rattle.volume.specs.Known.{Known};
+ghost use Rattle.volume.specs.WellFormed.{WellFormed};
 ghost use Rattle.rules.specs.Plans.{commit, plan};
-ghost use Rattle.recovery.specs.Budget.{Made};
-use recovery::Run;
+ghost use Rattle.stores.specs.Runs.{newRun, UpdatesMade};
+use sector::State;
+use stores::Run;
 
-// Client k's record is stored decided.
-fn decide(v: &mut [u8], k: u8, left: u8) -> Run
-    requires { ⌜ Known (now v) × IsClient (view (now v) .table) k ⌝ }
-    ensures { λ r. ⌜ Made left (now (v .entry)) (setRecord k (decidedRecord (view (now (v .entry)) .records k)) ∷ [])
-        (now (v .exit)) (r .made) (r .crashed) ⌝ }
+// Client k's record is put decided.
+fn decide(v: &mut [u8], k: u8, run: Run) -> Run
+    requires { ⌜ WellFormed (now v) × IsClient (view (now v) .table) k ⌝ }
+    ensures { λ q. ⌜ UpdatesMade (now (v .entry)) run (setRecord k (decidedRecord (view (now (v .entry)) .records k)) ∷ []) (now (v .exit)) q ⌝ }
 {
-    if left == 0 {
-        return Run::SHORT;
-    }
     let mut buf = sector::zeros();
     sector::load(&mut buf, volume::record(v, k));
-    sector::set_state(&mut buf, 2);
-    volume::store_record(v, k, &buf);
-    Run::ONE
+    sector::set_state(&mut buf, State::DECIDED);
+    stores::put_record(v, k, &buf, run)
 }
 
-// The stores of commit for client k: the record is decided, and from then on recovery redoes it.
+// The stores of commit for client k: the record is decided, then recovery redoes it.
 pub fn commit_stores(v: &mut [u8], k: u8, budget: u8) -> Run
-    requires { ⌜ Known (now v) × IsClient (view (now v) .table) k ⌝ }
+    requires { ⌜ WellFormed (now v) × IsClient (view (now v) .table) k ⌝ }
     ensures { λ r. ⌜ ((s : Session)
-        → Made budget (now (v .entry)) (plan (view (now (v .entry))) s (commit k)) (now (v .exit)) (r .made) (r .crashed)) ⌝ }
+        → UpdatesMade (now (v .entry)) (newRun budget) (plan (view (now (v .entry))) s (commit k)) (now (v .exit)) r) ⌝ }
 {
-    let first = decide(v, k, budget);
-    if first.crashed {
-        return first;
-    }
-    let last = recovery::recover(v, k, budget - first.made);
-    Run {
-        made: first.made + last.made,
-        crashed: last.crashed,
-    }
+    let start = Run::new(budget);
+    let run = decide(v, k, start);
+    recovery::recover(v, k, run)
 }

@@ -7,50 +7,43 @@ ghost use Rattle.volume.specs.Places.{IsFile};
 ghost use Rattle.volume.specs.Views.{setHeader};
 ghost use Rattle.volume.specs.Lawful.{headerFits};
 ghost use Rattle.volume.specs.Volumes.{view};
-ghost use Rattle.volume.specs.Known.{Known};
+ghost use Rattle.volume.specs.WellFormed.{WellFormed};
 ghost use Rattle.rules.specs.Plans.{openFile, plan};
 ghost use Rattle.rules.specs.Refusals.{heldByOther};
-ghost use Rattle.recovery.specs.Budget.{Made};
-use recovery::Run;
+ghost use Rattle.stores.specs.Runs.{newRun, UpdatesMade};
+use stores::Run;
 
-// File f's header is stored with holder k and the map that it has.
-fn claim(v: &mut [u8], k: u8, f: u8, left: u8) -> Run
-    requires { ⌜ Known (now v) × IsFile (view (now v) .table) f ⌝ }
-    ensures { λ r. ⌜ Made left (now (v .entry)) (setHeader f (record { holder = k; map = view (now (v .entry)) .headers f .map }) ∷ [])
-        (now (v .exit)) (r .made) (r .crashed) ⌝ }
+// File f's header is put with holder k and the map that it has.
+fn claim(v: &mut [u8], k: u8, f: u8, run: Run) -> Run
+    requires { ⌜ (run .crashed ≡ false → WellFormed (now v) × IsFile (view (now v) .table) f) ⌝ }
+    ensures { λ q. ⌜ UpdatesMade (now (v .entry)) run (setHeader f (record { holder = k; map = view (now (v .entry)) .headers f .map }) ∷ [])
+        (now (v .exit)) q ⌝ }
 {
-    if left == 0 {
-        return Run::SHORT;
+    if run.crashed {
+        return run;
     }
     let mut buf = sector::zeros();
     sector::load(&mut buf, volume::header(v, f));
     sector::set_holder(&mut buf, k);
-    volume::store_header(v, f, &buf);
-    Run::ONE
+    stores::put_header(v, f, &buf, run)
 }
 
 // The stores of open for client k and file f, in any session in which no other active client holds f: none if k holds it.
 // Another holder, which is orphaned then, is recovered; last, the header has holder k and the map after that recovery.
 pub fn open_stores(v: &mut [u8], k: u8, f: u8, budget: u8) -> Run
-    requires { ⌜ Known (now v) × IsFile (view (now v) .table) f
+    requires { ⌜ WellFormed (now v) × IsFile (view (now v) .table) f
         × (headerFits (view (now v) .records) (view (now v) .table) f (view (now v) .headers f) ≡ true) ⌝ }
     ensures { λ r. ⌜ ((s : Session) → heldByOther (view (now (v .entry))) s k f ≡ false
-        → Made budget (now (v .entry)) (plan (view (now (v .entry))) s (openFile k f)) (now (v .exit)) (r .made) (r .crashed)) ⌝ }
+        → UpdatesMade (now (v .entry)) (newRun budget) (plan (view (now (v .entry))) s (openFile k f)) (now (v .exit)) r) ⌝ }
 {
+    let start = Run::new(budget);
     let holder = volume::holder(v, f);
     if holder == k {
-        return Run::NONE;
+        return start;
     }
     if holder == 0 {
-        return claim(v, k, f, budget);
+        return claim(v, k, f, start);
     }
-    let first = recovery::recover(v, holder, budget);
-    if first.crashed {
-        return first;
-    }
-    let last = claim(v, k, f, budget - first.made);
-    Run {
-        made: first.made + last.made,
-        crashed: last.crashed,
-    }
+    let run = recovery::recover(v, holder, start);
+    claim(v, k, f, run)
 }

@@ -7,12 +7,14 @@ use Prim.Native.Nat.{ℕ}
 use lib.Dec.{eqb}
 use lib.ListN.{length, replicate, set}
 use Rattle.interface.specs.Answers.{FormatAnswer, formatDone, formatRefused}
-use Rattle.sector.specs.Lists.{all, first, every}
+use Rattle.lists.specs.Lists.{all, first, every}
 use Rattle.sector.specs.Contents.{Bytes, Table}
-use Rattle.sector.specs.Sectors.{Volume, padded}
+use Rattle.sector.specs.Sectors.{padded}
+use Rattle.volume.specs.Volumes.{Volume}
 use Rattle.sector.specs.Encoding.{fileBytes, encodeTable, entryBytes, encodeRecord, encodeHeader}
 use Rattle.volume.specs.Places.{sectorAfter}
-use Rattle.volume.specs.Format.{filesOf, tableFor, formatTests, repeated, newFiles, newVolume, Formatted, format}
+use Rattle.sector.specs.Shapes.{filesOf}
+use Rattle.volume.specs.Format.{lengthFits, shapeFits, endFits, tableFor, formatTests, repeated, newFiles, newVolume, Formatted, format}
 use Rattle.volume.proofs.PlaceExamples.{file, table, rec, header, smallTable}
 
 -- ------------------------------------------------------------------ Arguments
@@ -60,7 +62,7 @@ rows =
     ∷ []
 
 refusals-hold : every (λ x. eqb (first (formatTests (x .bytes) (x .clients) (x .shape))) (x .refusal)) rows ≡ true
-unfolding all first sectorAfter filesOf repeated formatTests
+unfolding all first sectorAfter filesOf repeated formatTests lengthFits shapeFits endFits
 refusals-hold = refl
 
 -- ------------------------------------------------------------------ New volumes
@@ -84,18 +86,18 @@ formatted a v = record { answer = a; volume = v }
 -- "answers done without a count". "all other sectors zero": of what the array had, nothing stays, and its length does.
 format-answers-done : map (λ v. format v 1 (1 ∷ 1 ∷ [])) (replicate 1024 0xEE ∷ replicate 1536 0xEE ∷ [])
     ≡ map (formatted formatDone) (newVolume oneFile ∷ (set (newVolume oneFile) 2 6 ++ replicate 512 0) ∷ [])
-unfolding format formatTests first all filesOf newVolume repeated newFiles sectorAfter encodeTable encodeRecord encodeHeader fileBytes entryBytes padded
+unfolding format formatTests lengthFits shapeFits endFits first all filesOf newVolume repeated newFiles sectorAfter encodeTable encodeRecord encodeHeader fileBytes entryBytes padded
 format-answers-done = refl
 
 -- The array's length, T and the list are tested. Refused: the number, and the array as it was.
 too-many-sectors : (v : Volume) → length v ≡ 262400 → format v 1 (1 ∷ 1 ∷ []) ≡ formatted (formatRefused 13) v
-unfolding first formatTests format
+unfolding first formatTests lengthFits shapeFits endFits format
 too-many-sectors v e = rw e refl
 
 too-many-clients : (v : Volume) → length v ≡ 1024 → format v 5 (1 ∷ 1 ∷ []) ≡ formatted (formatRefused 14) v
-unfolding first all formatTests format
+unfolding first all formatTests lengthFits shapeFits endFits format
 too-many-clients v e = rw e refl
 
 too-many-slots : (v : Volume) → length v ≡ 1024 → format v 1 (1 ∷ 2 ∷ []) ≡ formatted (formatRefused 15) v
-unfolding first all formatTests filesOf sectorAfter format
+unfolding first all formatTests lengthFits shapeFits endFits filesOf sectorAfter format
 too-many-slots v e = rw e refl

@@ -1,4 +1,4 @@
--- Examples of what fits together, of sound volumes and of known entries: the limits of a table, at each limit and one beyond
+-- Examples of what fits together, of sound volumes and of entries: the limits of a table, at each limit and one beyond
 -- it, then each rule of "sound". The checker evaluates both sides.
 use mathlib.Core.Path.{_≡_, refl}
 use mathlib.Core.Bool.{true, false, not}
@@ -7,17 +7,17 @@ use Prim.Native.Nat.{ℕ, _+_}
 use native.Mathlib.Omega.{arith}
 use lib.Dec.{eqb}
 use lib.ListN.{replicate, set}
-use Rattle.sector.specs.Lists.{if_then_else_, all, every, from}
+use Rattle.lists.specs.Lists.{if_then_else_, all, every, from}
 use Rattle.sector.specs.Contents.{Table, Record, Header, idleRecord}
-use Rattle.sector.specs.Sectors.{Volume, sector, padded}
+use Rattle.sector.specs.Sectors.{sector, padded}
 use Rattle.sector.specs.Encoding.{fileBytes, encodeTable, entryBytes, encodeRecord, encodeHeader}
 use Rattle.sector.specs.Decoding.{decodeFiles, decodeTable, decodeEntries, decodeRecord, decodeHeader}
 use Rattle.volume.specs.Places.{sectorAfter}
 use Rattle.volume.specs.Views.{View, setRecord, changed}
-use Rattle.volume.specs.Volumes.{tableOf, recordIn, headerIn, view}
+use Rattle.volume.specs.Volumes.{Volume, tableOf, recordIn, headerIn, view}
 use Rattle.volume.specs.Lawful.{tableFits, entryFits, recordFits, apart, holderFits, headerFits, lawful}
 use Rattle.volume.specs.Sound.{encoded, canonical, sound}
-use Rattle.volume.specs.Known.{HasEntry, noEntry}
+use Rattle.volume.specs.WellFormed.{HasEntry, noEntry}
 use Rattle.volume.specs.Format.{repeated, newFiles, newVolume}
 use Rattle.volume.proofs.PlaceExamples.{file, table, entry, rec, header, threeFiles, before, opened, clients-from-1}
 
@@ -151,7 +151,7 @@ sound-volumes : map sound
 unfolding sound lawful canonical encoded all view tableOf recordIn headerIn decodeTable decodeFiles decodeRecord decodeEntries decodeHeader sector newVolume newFiles repeated sectorAfter encodeTable fileBytes encodeRecord entryBytes encodeHeader padded
 sound-volumes = refl
 
--- ------------------------------------------------------------------ Known
+-- ------------------------------------------------------------------ WellFormed
 -- Record 1 of `before` has no entry; with one, that is the entry with index 0.
 entry-exists : let a = changed before (setRecord 1 opened) in HasEntry a 1 0 × (HasEntry a 1 1 → ⊥) × (HasEntry before 1 0 → ⊥)
     × (HasEntry a 0 0 → ⊥)

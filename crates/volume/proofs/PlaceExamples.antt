@@ -1,5 +1,5 @@
 -- Examples of where everything lies and of what stands there: places, views and updates, stores, the view of a volume. The
--- checker evaluates both sides. The other examples of this crate share the names at the top.
+-- checker evaluates both sides. The other examples share the names at the top.
 use mathlib.Core.Path.{_≡_, refl}
 use mathlib.Core.Bool.{true, false}
 use mathlib.Core.List.{List, [], _∷_, _++_, map}
@@ -7,13 +7,13 @@ use Prim.Native.Nat.{ℕ}
 use native.Mathlib.Omega.{arith}
 use lib.ListN.{getD, replicate}
 use Rattle.sector.specs.Contents.{File, Table, Entry, Record, Header, idleRecord}
-use Rattle.sector.specs.Sectors.{Volume, sector, storeAt, padded}
+use Rattle.sector.specs.Sectors.{sector, storeAt, padded}
 use Rattle.sector.specs.Encoding.{fileBytes, encodeTable, entryBytes, encodeRecord, encodeHeader}
 use Rattle.sector.specs.Decoding.{decodeFiles, decodeTable, decodeEntries, decodeRecord, decodeHeader}
 use Rattle.volume.specs.Places.{isClient, clientNumbers, isFile, fileNumbers, fileAt, IsClient, IsFile, IsPage, sectorAfter, headerSector, endSector, tablePlace, recordPlace, headerPlace, slotPlace, sectorOf}
 use Rattle.volume.specs.Views.{View, noHeader, setRecord, setHeader, setSlot, placeOf, changed, changedBy}
-use Rattle.volume.specs.Volumes.{tableOf, recordIn, headerIn, slotIn, view}
-use Rattle.volume.specs.Stores.{stored, storesOf, updated, allStores}
+use Rattle.volume.specs.Volumes.{Volume, tableOf, recordIn, headerIn, slotIn, view}
+use Rattle.volume.specs.Stores.{cutAt, storesOf, updated, allStores}
 use Rattle.volume.specs.Format.{repeated, newFiles, newVolume}
 
 abbrev pub file : (pages : ℕ) → (slots : ℕ) → File
@@ -136,17 +136,22 @@ stores-of : allStores threeFiles (setHeader 2 (header 1 (0 ∷ [])) ∷ setRecor
 unfolding allStores sectorAfter
 stores-of = refl
 
--- Of two stores into a sector the later one stays.
-stored-in-order : stored (replicate 512 1) (record { target = 1; bytes = replicate 256 2 }
-    ∷ record { target = 0; bytes = replicate 256 3 } ∷ record { target = 1; bytes = replicate 256 4 } ∷ [])
-    ≡ replicate 256 3 ++ replicate 256 4
-unfolding stored storeAt
-stored-in-order = refl
+-- The first so many are made, the first one first: of two stores into a sector the later one stays.
+cut-in-order : map (cutAt (replicate 512 1) (record { target = 1; bytes = replicate 256 2 }
+    ∷ record { target = 0; bytes = replicate 256 3 } ∷ record { target = 1; bytes = replicate 256 4 } ∷ [])) (0 ∷ 1 ∷ 2 ∷ 3 ∷ 4 ∷ [])
+    ≡ replicate 512 1
+    ∷ (replicate 256 1 ++ replicate 256 2)
+    ∷ (replicate 256 3 ++ replicate 256 2)
+    ∷ (replicate 256 3 ++ replicate 256 4)
+    ∷ (replicate 256 3 ++ replicate 256 4)
+    ∷ []
+unfolding cutAt storeAt
+cut-in-order = refl
 
 -- An update makes its one store.
 update-stored : updated threeFiles (replicate 1024 0) (setRecord 2 (rec 1 []))
-    ≡ stored (replicate 1024 0) (storesOf threeFiles (setRecord 2 (rec 1 [])))
-unfolding stored
+    ≡ cutAt (replicate 1024 0) (storesOf threeFiles (setRecord 2 (rec 1 []))) 1
+unfolding cutAt
 update-stored = refl
 
 -- ------------------------------------------------------------------ Volumes
@@ -159,19 +164,19 @@ abbrev pub opened : Record
 opened = rec 1 (entry 1 0 2 ∷ [])
 
 abbrev small : Volume
-small = stored (newVolume smallTable)
+small = cutAt (newVolume smallTable)
     (record { target = 1; bytes = encodeRecord opened }
     ∷ record { target = 3; bytes = encodeHeader (file 2 3) (header 1 (0 ∷ 1 ∷ [])) }
     ∷ record { target = 6; bytes = replicate 256 0xA1 }
     ∷ record { target = 11; bytes = replicate 256 7 }
-    ∷ [])
+    ∷ []) 4
 
 -- The table, the records of clients 1 and 2 and the headers of files 1 and 2; a client and a file 0 or 3 have an empty one.
 small-view : let a = view small in
     (a .table ≡ smallTable)
     × (map (a .records) (0 ∷ 1 ∷ 2 ∷ 3 ∷ []) ≡ idleRecord ∷ opened ∷ idleRecord ∷ idleRecord ∷ [])
     × (map (a .headers) (0 ∷ 1 ∷ 2 ∷ 3 ∷ []) ≡ noHeader ∷ header 1 (0 ∷ 1 ∷ []) ∷ header 0 (0 ∷ []) ∷ noHeader ∷ [])
-unfolding view tableOf recordIn headerIn decodeTable decodeFiles decodeRecord decodeEntries decodeHeader sector stored storeAt newVolume newFiles repeated sectorAfter encodeTable fileBytes encodeRecord entryBytes encodeHeader padded
+unfolding view tableOf recordIn headerIn decodeTable decodeFiles decodeRecord decodeEntries decodeHeader sector cutAt storeAt newVolume newFiles repeated sectorAfter encodeTable fileBytes encodeRecord entryBytes encodeHeader padded
 small-view = (refl, refl, refl)
 
 -- The table is read from sector 0 alone: a 63rd file would lie in the next one.
@@ -183,5 +188,5 @@ table-in-sector-0 = refl
 small-slots : let a = view small in
     a .slots 1 0 ∷ a .slots 1 2 ∷ a .slots 1 3 ∷ a .slots 0 0 ∷ a .slots 3 0 ∷ []
     ≡ replicate 256 0 ∷ replicate 256 0xA1 ∷ [] ∷ [] ∷ [] ∷ []
-unfolding view tableOf slotIn decodeTable decodeFiles sector stored storeAt newVolume newFiles repeated sectorAfter encodeTable fileBytes encodeRecord entryBytes encodeHeader padded
+unfolding view tableOf slotIn decodeTable decodeFiles sector cutAt storeAt newVolume newFiles repeated sectorAfter encodeTable fileBytes encodeRecord entryBytes encodeHeader padded
 small-slots = refl

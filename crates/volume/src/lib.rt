@@ -1,7 +1,9 @@
-// The volume as a whole: what stands where, and what it holds.
+// The volume as a whole: what is where, and what it holds.
+mod fits;
 mod read;
 mod write;
 
+pub use fits::file_fits;
 pub use read::clients;
 pub use read::entry_count;
 pub use read::entry_file;
@@ -19,17 +21,3 @@ pub use read::state;
 pub use write::store_header;
 pub use write::store_record;
 pub use write::store_slot;
-
-// The limits of a volume.
-pub struct Limits {}
-
-impl Limits {
-    // The most sectors of a volume.
-    pub const SECTORS: usize = 1024;
-    // The most files of a volume.
-    pub const FILES: usize = 16;
-    // The most pages of a file.
-    pub const PAGES: u8 = 120;
-    // The most slots of a file.
-    pub const SLOTS: u8 = 240;
-}

@@ -7,21 +7,6 @@ use Rattle.byteset.specs.Set.{hasByte, withByte}
 use Rattle.byteset.proofs.insert_number.Statement.{statement}
 use Rattle.byteset.proofs.insert_number.Tie as tie
 
-mask-requires : tie.Need-mask-requires
-mask-requires c κs = search needs
-
-mul-word : tie.Need-mul-word
-mul-word c = search needs
-
-element-copy-out-word : tie.Need-element-copy-out-word
-element-copy-out-word c = search needs
-
-mul-seen : tie.Need-mul-seen
-mul-seen c = search needs
-
-element-write-seen : tie.Need-element-write-seen
-element-write-seen c = search needs
-
 returns : tie.Need-returns
 unfolding hasByte withByte
 returns c =
@@ -29,12 +14,5 @@ returns c =
     (rw (m .mask .ensures) (sym (Bool·not-not _)), rw (m .mask .ensures), simp length-set (m .before .pre .0))
 
 pub insert-number-spec : {M : Type 1} → statement M
-insert-number-spec =
-    tie.close
-    (tie.spec
-    mask-requires
-    mul-word
-    element-copy-out-word
-    mul-seen
-    element-write-seen
-    returns)
+insert-number-spec = tie.close (tie.spec (λ c κs. search needs) (λ c. search needs) (λ c. search needs)
+    (λ c. search needs) (λ c. search needs) returns)

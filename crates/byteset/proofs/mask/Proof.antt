@@ -5,11 +5,8 @@ use Rattle.byteset.proofs.SetLaws.{mask-is}
 use Rattle.byteset.proofs.mask.Statement.{statement}
 use Rattle.byteset.proofs.mask.Tie as tie
 
-shl-result : tie.Need-shl-result
-shl-result c = search needs
-
 returns : tie.Need-returns
 returns c = mask-is (c .args .x) _ refl
 
 pub mask-spec : {M : Type 1} → statement M
-mask-spec = tie.close (tie.spec shl-result returns)
+mask-spec = tie.close (tie.spec (λ c. search needs) returns)

@@ -2,30 +2,18 @@
 use mathlib.Core.Path.{sym, ap, _∙_}
 use borrow.Author.Needs.{needs}
 use Rattle.rules.specs.Plans.{commit}
-use Rattle.calls.proofs.FactLaws.{call-known, acts}
+use Rattle.calls.proofs.FactLaws.{call-formed, acts}
 use Rattle.checks.specs.Verdicts.{numberOf}
 use Rattle.calls.proofs.AnswerLaws.{refused-call, ended-call}
 use Rattle.calls.proofs.commit.Statement.{statement}
 use Rattle.calls.proofs.commit.Tie as tie
-
-check-active-requires : tie.Need-check-active-requires
-check-active-requires c κs = search needs
-
-enum-known-r : tie.Need-enum-known-r
-enum-known-r c = search needs
-
-refuse-requires : tie.Need-refuse-requires
-refuse-requires c κs = search needs
-
-enum-told : tie.Need-enum-told
-enum-told c = search needs
 
 commit-stores-requires : tie.Need-commit-stores-requires
 commit-stores-requires c κs =
     let q = c .before .before .before in
     let s = q .before .before .before in
     let e = (ap numberOf (sym (c .before .enum-told .given .1)) ∙ q .check-active .ensures) in
-    (call-known (s .args .v .now) (s .args .s) (commit (s .args .k)) e, acts (s .args .v .now) (s .args .s) (s .args .k) e .client)
+    (call-formed (s .args .volume .now) (s .args .session) (commit (s .args .client)) e, acts (s .args .volume .now) (s .args .session) (s .args .client) e .client)
 
 set-active-requires : tie.Need-set-active-requires
 set-active-requires c κs =
@@ -33,23 +21,14 @@ set-active-requires c κs =
     let q = b .before .before .before .before in
     let s = q .before .before .before in
     let e = (ap numberOf (sym (b .before .before .enum-told .given .1)) ∙ q .check-active .ensures) in
-    (acts (s .args .v .now) (s .args .s) (s .args .k) e .client .low, acts (s .args .v .now) (s .args .s) (s .args .k) e .few)
-
-end-requires : tie.Need-end-requires
-end-requires c κs = search needs
-
-same-length : tie.Need-same-length
-same-length c = search needs
+    (acts (s .args .volume .now) (s .args .session) (s .args .client) e .client .low, acts (s .args .volume .now) (s .args .session) (s .args .client) e .few)
 
 returns : tie.Need-returns
 returns c =
     let q = c .before .before .before .before in
     let s = q .before .before .before in
     let r = c .before .before .r .given in
-    c .refuse .ensures (s .args .v .now) ∙ refused-call (s .args .v .now) (s .args .s) (commit (s .args .k)) (s .args .budget) (r .0 .0) (ap numberOf (sym (r .1)) ∙ q .check-active .ensures)
-
-same-length-2 : tie.Need-same-length-2
-same-length-2 c = search needs
+    c .refuse .ensures (s .args .volume .now) ∙ refused-call (s .args .volume .now) (s .args .session) (commit (s .args .client)) (s .args .budget) (r .0 .0) (ap numberOf (sym (r .1)) ∙ q .check-active .ensures)
 
 returns-2 : tie.Need-returns-2
 returns-2 c =
@@ -57,7 +36,9 @@ returns-2 c =
     let q = b .before .before .before .before in
     let s = q .before .before .before in
     let e = (ap numberOf (sym (b .before .before .enum-told .given .1)) ∙ q .check-active .ensures) in
-    c .end .ensures (b .commit-stores .last .0) ∙ rw (c .before .set-active .ensures) (ended-call (s .args .v .now) (s .args .s) (commit (s .args .k)) (s .args .budget) e (b .commit-stores .last .0) (b .commit-stores .result .made) (b .commit-stores .result .crashed) (b .commit-stores .ensures (s .args .s)))
+    c .end .ensures (b .commit-stores .last .0) ∙ rw (c .before .set-active .ensures) (ended-call (s .args .volume .now) (s .args .session) (commit (s .args .client)) (s .args .budget) e (b .commit-stores .last .0) (b .commit-stores .result) (b .commit-stores .ensures (s .args .session)))
 
 pub commit-spec : {M : Type 1} → statement M
-commit-spec = tie.close (tie.spec check-active-requires enum-known-r refuse-requires enum-told commit-stores-requires set-active-requires end-requires same-length returns same-length-2 returns-2)
+commit-spec = tie.close (tie.spec (λ c κs. search needs) (λ c. search needs) (λ c κs. search needs) (λ c. search needs)
+    commit-stores-requires set-active-requires (λ c κs. search needs) (λ c. search needs) returns (λ c. search needs)
+    returns-2)

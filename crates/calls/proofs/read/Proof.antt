@@ -2,41 +2,34 @@
 use mathlib.Core.Path.{sym, ap, _∙_}
 use borrow.Author.Needs.{needs}
 use Rattle.interface.specs.Answers.{found}
-use Rattle.rules.proofs.CallLaws.{read-found}
+use Rattle.rules.specs.Plans.{readPage}
+use Rattle.rules.proofs.CallLaws.{query-answered}
 use Rattle.checks.specs.Verdicts.{numberOf}
-use Rattle.checks.proofs.WriteLaws.{read-known}
-use Rattle.calls.proofs.AnswerLaws.{read-refused}
+use Rattle.checks.proofs.WriteVerdictLaws.{read-formed}
+use Rattle.calls.proofs.AnswerLaws.{refused-query}
 use Rattle.calls.proofs.read.Statement.{statement}
 use Rattle.calls.proofs.read.Tie as tie
-
-check-read-requires : tie.Need-check-read-requires
-check-read-requires c κs = search needs
-
-enum-known-r : tie.Need-enum-known-r
-enum-known-r c = search needs
-
-enum-told : tie.Need-enum-told
-enum-told c = search needs
 
 page-sector-requires : tie.Need-page-sector-requires
 page-sector-requires c κs =
     let q = c .before .before in
     let s = q .before .before in
-    read-known (s .args .v .now) (s .args .s) (s .args .k) (s .args .f) (s .args .p) (ap numberOf (sym (c .enum-told .given .1)) ∙ q .check-read .ensures)
+    read-formed (s .args .volume .now) (s .args .session) (s .args .client) (s .args .file) (s .args .page) (ap numberOf (sym (c .enum-told .given .1)) ∙ q .check-read .ensures)
 
 returns : tie.Need-returns
 returns c =
     let x = c .before in
     let q = x .before .before in
     let s = q .before .before in
-    read-refused (s .args .v .now) (s .args .s) (s .args .k) (s .args .f) (s .args .p) (x .r .given .0 .0) (ap numberOf (sym (x .r .given .1)) ∙ q .check-read .ensures)
+    refused-query (s .args .volume .now) (s .args .session) (readPage (s .args .client) (s .args .file) (s .args .page)) (x .r .given .0 .0) (ap numberOf (sym (x .r .given .1)) ∙ q .check-read .ensures)
 
 returns-2 : tie.Need-returns-2
 returns-2 c =
     let x = c .before in
     let q = x .before .before in
     let s = q .before .before in
-    ap found (c .page-sector .ensures) ∙ sym (read-found (s .args .v .now) (s .args .s) (s .args .k) (s .args .f) (s .args .p) (sym (ap numberOf (sym (x .enum-told .given .1)) ∙ q .check-read .ensures)))
+    ap found (c .page-sector .ensures) ∙ sym (query-answered (s .args .volume .now) (s .args .session) (readPage (s .args .client) (s .args .file) (s .args .page)) (sym (ap numberOf (sym (x .enum-told .given .1)) ∙ q .check-read .ensures)))
 
 pub read-spec : {M : Type 1} → statement M
-read-spec = tie.close (tie.spec check-read-requires enum-known-r enum-told page-sector-requires returns returns-2)
+read-spec = tie.close (tie.spec (λ c κs. search needs) (λ c. search needs) (λ c. search needs) page-sector-requires
+    returns returns-2)

@@ -6,19 +6,10 @@ use Rattle.capi.specs.Packing.{packedFormat}
 use Rattle.capi.proofs.vol_format.Statement.{statement}
 use Rattle.capi.proofs.vol_format.Tie as tie
 
-format-requires : tie.Need-format-requires
-format-requires c κs = search needs
-
-pack-format-requires : tie.Need-pack-format-requires
-pack-format-requires c κs = search needs
-
-same-length : tie.Need-same-length
-same-length c = search needs
-
 returns : tie.Need-returns
 returns c =
     let at = c .before .before .before in
     (c .pack-format .ensures ∙ ap packedFormat (ap (λ (x : Formatted). x .answer) (at .format .ensures)), ap (λ (x : Formatted). x .volume) (at .format .ensures))
 
 pub vol-format-spec : {M : Type 1} → statement M
-vol-format-spec = tie.close (tie.spec format-requires pack-format-requires same-length returns)
+vol-format-spec = tie.close (tie.spec (λ c κs. search needs) (λ c κs. search needs) (λ c. search needs) returns)

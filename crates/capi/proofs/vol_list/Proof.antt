@@ -6,19 +6,10 @@ use Rattle.capi.specs.Packing.{listedLength}
 use Rattle.capi.proofs.vol_list.Statement.{statement}
 use Rattle.capi.proofs.vol_list.Tie as tie
 
-list-requires : tie.Need-list-requires
-list-requires c κs = search needs
-
-pack-list-requires : tie.Need-pack-list-requires
-pack-list-requires c κs = search needs
-
-same-length : tie.Need-same-length
-same-length c = search needs
-
 returns : tie.Need-returns
 returns c =
     let b = c .before .before .before in
     (c .pack-list .ensures ∙ ap listedLength (ap (λ (x : Listed). x .outcome) (b .list .ensures)), ap (λ (x : Listed). x .out) (b .list .ensures))
 
 pub vol-list-spec : {M : Type 1} → statement M
-vol-list-spec = tie.close (tie.spec list-requires pack-list-requires same-length returns)
+vol-list-spec = tie.close (tie.spec (λ c κs. search needs) (λ c κs. search needs) (λ c. search needs) returns)

@@ -4,22 +4,16 @@ use mathlib.Core.Bool.{true, false}
 use borrow.Author.Needs.{needs}
 use borrow.Author.Tests.{not-true, not-false, le-leb, lt-leb}
 use lib.ListN.{length}
-use Rattle.format.specs.Requests.{lengthFits, shapeFits, endFits}
+use Rattle.volume.specs.Format.{lengthFits, shapeFits, endFits}
 use Rattle.format.proofs.FormatLaws.{format-is, shape-short, fits}
 use Rattle.format.proofs.format.Statement.{statement}
 use Rattle.format.proofs.format.Tie as tie
-
-length-fits-requires : tie.Need-length-fits-requires
-length-fits-requires c κs = search needs
 
 returns : tie.Need-returns
 returns c =
     let a = c .before .before .before .before .args in
     let bad : lengthFits (length (a .v .now)) ≡ false = sym (c .before .length-fits .ensures) ∙ not-true _ (c .if1 .taken) in
     sym (format-is (a .v .now) (a .clients) (a .shape .now) ∙ rw bad)
-
-shape-fits-requires : tie.Need-shape-fits-requires
-shape-fits-requires c κs = search needs
 
 returns-2 : tie.Need-returns-2
 returns-2 c =
@@ -56,9 +50,6 @@ lay-out-requires c κs =
     fits (length (a .v .now)) (a .clients) (a .shape .now) (sym (l .before .length-fits .ensures) ∙ not-false _ (l .if1 .left))
     (sym (s .before .shape-fits .ensures) ∙ not-false _ (s .if2 .left)) ends
 
-same-length : tie.Need-same-length
-same-length c = search needs
-
 returns-4 : tie.Need-returns-4
 unfolding endFits
 returns-4 c =
@@ -73,15 +64,5 @@ returns-4 c =
     rw (o .lay-out .ensures) (sym (format-is (a .v .now) (a .clients) (a .shape .now) ∙ rw (ok, fine, ends)))
 
 pub format-spec : {M : Type 1} → statement M
-format-spec =
-    tie.close
-    (tie.spec
-    length-fits-requires
-    returns
-    shape-fits-requires
-    returns-2
-    end-sector-requires
-    returns-3
-    lay-out-requires
-    same-length
-    returns-4)
+format-spec = tie.close (tie.spec (λ c κs. search needs) returns (λ c κs. search needs) returns-2 end-sector-requires
+    returns-3 lay-out-requires (λ c. search needs) returns-4)

@@ -14,9 +14,6 @@ returns : tie.Need-returns
 unfolding listed
 returns c = rw (lt-ltb _ _ (c .if1 .taken))
 
-is-sound-requires : tie.Need-is-sound-requires
-is-sound-requires c κs = search needs
-
 returns-2 : tie.Need-returns-2
 unfolding listed
 returns-2 c =
@@ -29,9 +26,6 @@ list-lines-requires c κs =
     let b = c .before in
     (sym (b .before .is-sound .ensures) ∙ not-false _ (b .if2 .left), omega arith)
 
-same-length : tie.Need-same-length
-same-length c = search needs
-
 returns-3 : tie.Need-returns-3
 returns-3 c =
     let p = c .before .before in
@@ -41,4 +35,4 @@ returns-3 c =
     listed-text (s .args .v .now) (s .args .out .now) _ _ (omega arith) ok (p .list-lines .ensures)
 
 pub list-spec : {M : Type 1} → statement M
-list-spec = tie.close (tie.spec returns is-sound-requires returns-2 list-lines-requires same-length returns-3)
+list-spec = tie.close (tie.spec returns (λ c κs. search needs) returns-2 list-lines-requires (λ c. search needs) returns-3)

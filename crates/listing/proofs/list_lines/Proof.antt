@@ -2,7 +2,7 @@
 -- both.
 use native.Mathlib.Omega.{arith}
 use borrow.Author.Needs.{needs}
-use Rattle.volume.proofs.KnownLaws.{sound-known}
+use Rattle.volume.proofs.WellFormedLaws.{sound-formed}
 use Rattle.listing.proofs.ListingLaws.{lines-fit, wrote-listing}
 use Rattle.listing.proofs.list_lines.Statement.{statement}
 use Rattle.listing.proofs.list_lines.Tie as tie
@@ -11,17 +11,14 @@ list-clients-requires : tie.Need-list-clients-requires
 list-clients-requires c κs =
     let s = c .before .before .before in
     let v = s .args .v .now in
-    (sound-known v (s .pre .0), omega (arith, lines-fit v (s .pre .0)))
+    (sound-formed v (s .pre .0), omega (arith, lines-fit v (s .pre .0)))
 
 list-files-requires : tie.Need-list-files-requires
 list-files-requires c κs =
     let p = c .before .before .before in
     let s = p .before .before .before .before in
     let v = s .args .v .now in
-    (sound-known v (s .pre .0), omega (arith, lines-fit v (s .pre .0)))
-
-same-length : tie.Need-same-length
-same-length c = search needs
+    (sound-formed v (s .pre .0), omega (arith, lines-fit v (s .pre .0)))
 
 returns : tie.Need-returns
 returns c =
@@ -31,4 +28,4 @@ returns c =
     wrote-listing (s .args .v .now) _ _ _ _ _ (p .list-clients .ensures) (f .list-files .ensures)
 
 pub list-lines-spec : {M : Type 1} → statement M
-list-lines-spec = tie.close (tie.spec list-clients-requires list-files-requires same-length returns)
+list-lines-spec = tie.close (tie.spec list-clients-requires list-files-requires (λ c. search needs) returns)

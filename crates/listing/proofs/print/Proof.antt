@@ -7,7 +7,7 @@ use borrow.Author.Tests.{not-true, not-false, lt-ltb}
 use Rattle.volume.specs.Sound.{sound}
 use Rattle.listing.specs.Listed.{toPrint}
 use Rattle.listing.proofs.ListingLaws.{listing-fits}
-use Rattle.listing.proofs.PrintLaws.{printed-long, printed-unsound, printed-listing, to-print, print-fits}
+use Rattle.listing.proofs.PrintLaws.{printed-long, printed-unsound, printed-listing, print-ends}
 use Rattle.listing.proofs.print.Statement.{statement}
 use Rattle.listing.proofs.print.Tie as tie
 
@@ -15,36 +15,11 @@ returns : tie.Need-returns
 unfolding toPrint
 returns c = (rw (lt-ltb _ _ (c .if1 .taken)), (omega arith, refl))
 
-slice-aggregate-put : tie.Need-slice-aggregate-put
-slice-aggregate-put c = search needs
-
-put-requires : tie.Need-put-requires
-put-requires c κs = search needs
-
-same-length : tie.Need-same-length
-same-length c = search needs
-
 returns-2 : tie.Need-returns-2
 returns-2 c =
     let p = c .before .before in
     let s = p .before .before .before .before .before .before .before in
-    let v = s .args .v .now in
-    let b = s .args .out .now in (
-      to-print v b _ _ _ (omega arith) (omega arith) (printed-long v (omega arith)) (p .put .ensures),
-      print-fits b _ _ _ (omega arith) (omega arith) (p .put .ensures),
-    )
-
-is-sound-requires : tie.Need-is-sound-requires
-is-sound-requires c κs = search needs
-
-slice-aggregate-put-2 : tie.Need-slice-aggregate-put-2
-slice-aggregate-put-2 c = search needs
-
-put-requires-2 : tie.Need-put-requires-2
-put-requires-2 c κs = search needs
-
-same-length-2 : tie.Need-same-length-2
-same-length-2 c = search needs
+    print-ends (s .args .v .now) (s .args .out .now) _ _ _ (omega arith) (omega arith) (printed-long _ (omega arith)) (p .put .ensures)
 
 returns-3 : tie.Need-returns-3
 returns-3 c =
@@ -52,19 +27,13 @@ returns-3 c =
     let t = p .before .before .before in
     let s = t .before .before .before .before .before .before in
     let v = s .args .v .now in
-    let b = s .args .out .now in
-    let bad : sound v ≡ false = sym (t .before .is-sound .ensures) ∙ not-true _ (t .if3 .taken) in (
-      to-print v b _ _ _ (omega arith) (omega arith) (printed-unsound v (omega arith) bad) (p .put2 .ensures),
-      print-fits b _ _ _ (omega arith) (omega arith) (p .put2 .ensures),
-    )
+    let bad : sound v ≡ false = sym (t .before .is-sound .ensures) ∙ not-true _ (t .if3 .taken) in
+    print-ends v (s .args .out .now) _ _ _ (omega arith) (omega arith) (printed-unsound v (omega arith) bad) (p .put2 .ensures)
 
 list-lines-requires : tie.Need-list-lines-requires
 list-lines-requires c κs =
     let b = c .before in
     (sym (b .before .is-sound .ensures) ∙ not-false _ (b .if3 .left), omega arith)
-
-same-length-3 : tie.Need-same-length-3
-same-length-3 c = search needs
 
 returns-4 : tie.Need-returns-4
 returns-4 c =
@@ -72,26 +41,9 @@ returns-4 c =
     let t = p .before .before in
     let s = t .before .before .before .before .before .before in
     let v = s .args .v .now in
-    let b = s .args .out .now in
-    let ok : sound v ≡ true = sym (t .before .is-sound .ensures) ∙ not-false _ (t .if3 .left) in (
-      to-print v b _ _ _ (omega arith) (listing-fits v ok) (printed-listing v (omega arith) ok) (p .list-lines .ensures),
-      print-fits b _ _ _ (omega arith) (listing-fits v ok) (p .list-lines .ensures),
-    )
+    let ok : sound v ≡ true = sym (t .before .is-sound .ensures) ∙ not-false _ (t .if3 .left) in
+    print-ends v (s .args .out .now) _ _ _ (omega arith) (listing-fits v ok) (printed-listing v (omega arith) ok) (p .list-lines .ensures)
 
 pub print-spec : {M : Type 1} → statement M
-print-spec =
-    tie.close
-    (tie.spec
-    returns
-    slice-aggregate-put
-    put-requires
-    same-length
-    returns-2
-    is-sound-requires
-    slice-aggregate-put-2
-    put-requires-2
-    same-length-2
-    returns-3
-    list-lines-requires
-    same-length-3
-    returns-4)
+print-spec = tie.close (tie.spec returns (λ c. search needs) (λ c κs. search needs) (λ c. search needs) returns-2 (λ c κs. search needs)
+    (λ c. search needs) (λ c κs. search needs) (λ c. search needs) returns-3 list-lines-requires (λ c. search needs) returns-4)

@@ -9,12 +9,6 @@ use Rattle.replay.proofs.RunLaws.{room-fits}
 use Rattle.replay.proofs.replay.Statement.{statement}
 use Rattle.replay.proofs.replay.Tie as tie
 
-has-room-requires : tie.Need-has-room-requires
-has-room-requires c κs = search needs
-
-hand-back-requires : tie.Need-hand-back-requires
-hand-back-requires c κs = search needs
-
 returns : tie.Need-returns
 returns c =
     let h = c .before .before in
@@ -28,15 +22,6 @@ run-steps-requires c κs =
     let a = e .before .before .before .before .before .args in
     room-fits (a .script .now) (length (a .out .now)) (sym (e .before .has-room .ensures) ∙ not-false _ (e .if1 .left))
 
-hand-back-requires-2 : tie.Need-hand-back-requires-2
-hand-back-requires-2 c κs = search needs
-
-same-length : tie.Need-same-length
-same-length c = search needs
-
-same-length-2 : tie.Need-same-length-2
-same-length-2 c = search needs
-
 returns-2 : tie.Need-returns-2
 returns-2 c =
     let r = c .before .before .before .before .before in
@@ -46,14 +31,5 @@ returns-2 c =
     λ m. rw (room, c .hand-back2 .ensures) (r .run-steps .ensures m)
 
 pub replay-spec : {M : Type 1} → statement M
-replay-spec =
-    tie.close
-    (tie.spec
-    has-room-requires
-    hand-back-requires
-    returns
-    run-steps-requires
-    hand-back-requires-2
-    same-length
-    same-length-2
-    returns-2)
+replay-spec = tie.close (tie.spec (λ c κs. search needs) (λ c κs. search needs) returns run-steps-requires
+    (λ c κs. search needs) (λ c. search needs) (λ c. search needs) returns-2)

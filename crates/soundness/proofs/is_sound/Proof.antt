@@ -4,19 +4,13 @@ use mathlib.Core.Path.{_≡_, sym, _∙_}
 use Prim.Native.Nat.{_*_}
 use borrow.Author.Tests.{not-true, not-false}
 use lib.ListN.{length}
-use Rattle.sector.specs.Sectors.{word}
-use Rattle.soundness.proofs.SoundLaws.{few-files, few-clients, records-inside, tested, short-no, table-no, size-no, records-no, sound-last}
+use Rattle.sector.specs.Decoding.{sectorsIn}
+use Rattle.soundness.proofs.SoundLaws.{few-clients, records-inside, tested, short-no, table-no, size-no, records-no, sound-last}
 use Rattle.soundness.proofs.is_sound.Statement.{statement}
 use Rattle.soundness.proofs.is_sound.Tie as tie
 
 returns : tie.Need-returns
 returns c = sym (short-no (c .before .before .args .v .now) (c .if1 .taken))
-
-part-requires : tie.Need-part-requires
-part-requires c κs = search needs
-
-table-is-sound-requires : tie.Need-table-is-sound-requires
-table-is-sound-requires c κs = search needs
 
 returns-2 : tie.Need-returns-2
 returns-2 c =
@@ -24,23 +18,12 @@ returns-2 c =
     let no = sym (c .before .table-is-sound .ensures) ∙ not-true _ (c .if2 .taken) in
     sym (table-no (p .before .before .before .args .v .now) _ (p .part .ensures .0) no)
 
-word-at-requires : tie.Need-word-at-requires
-word-at-requires c κs = search needs
-
-mul-if3 : tie.Need-mul-if3
-mul-if3 c = search needs
-
 returns-3 : tie.Need-returns-3
 returns-3 c =
     let m = c .before in
     let p = m .before .before .before in
-    sym (size-no (p .before .before .before .args .v .now) _ (p .part .ensures .0) _ (m .word-at .ensures .0) (c .if3 .taken))
-
-shared-slice-read-size : tie.Need-shared-slice-read-size
-shared-slice-read-size c = search needs
-
-size-requires : tie.Need-size-requires
-size-requires c κs = search needs
+    let no = rw (m .table-sectors .ensures .0) at (c .if3 .taken) in
+    sym (size-no (p .before .before .before .args .v .now) _ (p .part .ensures .0) no)
 
 records-are-sound-requires : tie.Need-records-are-sound-requires
 records-are-sound-requires c κs =
@@ -51,23 +34,17 @@ records-are-sound-requires c κs =
     let v = p .before .before .before .args .v .now in
     let tb = p .part .result .now in
     let ok = sym (e2 .before .table-is-sound .ensures) ∙ not-false _ (e2 .if2 .left) in
-    let sized : length v ≡ 256 * word tb 2 = rw (m .word-at .ensures .0) at (e3 .if3 .left) in
-    let inside = records-inside v tb ok sized in
-    let few = few-clients v tb ok sized in
-    (p .part .ensures .1, few-files v tb ok sized, ok, rw (c .size .ensures .0) few, rw (c .size .ensures .0) inside)
+    let sized : length v ≡ 256 * sectorsIn tb = rw (m .table-sectors .ensures .0) at (e3 .if3 .left) in
+    let n = c .wide .ensures .0 ∙ c .before .table-clients .ensures in
+    (p .part .ensures .1, ok, rw n (few-clients v tb ok sized), rw n (records-inside v tb ok sized))
 
 returns-4 : tie.Need-returns-4
 returns-4 c =
     let z = c .before .before in
     let p = z .before .before .before .before .before .before in
-    let no = sym (c .before .records-are-sound .ensures) ∙ not-true _ (c .if4 .taken) in
-    sym (records-no (p .before .before .before .args .v .now) _ (p .part .ensures .0) _ (z .size .ensures .0) no)
-
-shared-slice-read-size-2 : tie.Need-shared-slice-read-size-2
-shared-slice-read-size-2 c = search needs
-
-size-requires-2 : tie.Need-size-requires-2
-size-requires-2 c κs = search needs
+    let n = z .wide .ensures .0 ∙ z .before .table-clients .ensures in
+    let no = rw n at (sym (c .before .records-are-sound .ensures) ∙ not-true _ (c .if4 .taken)) in
+    sym (records-no (p .before .before .before .args .v .now) _ (p .part .ensures .0) no)
 
 headers-are-sound-requires : tie.Need-headers-are-sound-requires
 headers-are-sound-requires c κs =
@@ -80,9 +57,10 @@ headers-are-sound-requires c κs =
     let v = p .before .before .before .args .v .now in
     let tb = p .part .result .now in
     let ok = sym (e2 .before .table-is-sound .ensures) ∙ not-false _ (e2 .if2 .left) in
-    let sized : length v ≡ 256 * word tb 2 = rw (m .word-at .ensures .0) at (e3 .if3 .left) in
-    let recs = rw (z .size .ensures .0) at (sym (e4 .before .records-are-sound .ensures) ∙ not-false _ (e4 .if4 .left)) in
-    (tested v tb ok sized (p .part .ensures .1) recs, c .size2 .ensures .0)
+    let sized : length v ≡ 256 * sectorsIn tb = rw (m .table-sectors .ensures .0) at (e3 .if3 .left) in
+    let n = z .wide .ensures .0 ∙ z .before .table-clients .ensures in
+    let recs = rw n at (sym (e4 .before .records-are-sound .ensures) ∙ not-false _ (e4 .if4 .left)) in
+    (tested v tb ok sized (p .part .ensures .1) recs, c .wide2 .ensures .0 ∙ c .before .table-files .ensures)
 
 returns-5 : tie.Need-returns-5
 returns-5 c =
@@ -96,27 +74,28 @@ returns-5 c =
     let v = p .before .before .before .args .v .now in
     let tb = p .part .result .now in
     let ok = sym (e2 .before .table-is-sound .ensures) ∙ not-false _ (e2 .if2 .left) in
-    let recs = sym (e4 .before .records-are-sound .ensures) ∙ not-false _ (e4 .if4 .left) in
+    let sized : length v ≡ 256 * sectorsIn tb = rw (m .table-sectors .ensures .0) at (e3 .if3 .left) in
+    let n = z .wide .ensures .0 ∙ z .before .table-clients .ensures in
+    let recs = rw n at (sym (e4 .before .records-are-sound .ensures) ∙ not-false _ (e4 .if4 .left)) in
     c .headers-are-sound .ensures
-    ∙ sound-last v tb (p .part .ensures .0) _ _ _ (m .word-at .ensures .0) (z .size .ensures .0) (z2 .size2 .ensures .0)
-    (p .before .if1 .left) ok (e3 .if3 .left) recs
+    ∙ rw (z2 .wide2 .ensures .0, z2 .before .table-files .ensures) (sound-last v tb (p .part .ensures .0) (p .before .if1 .left) ok sized recs)
 
 pub is-sound-spec : {M : Type 1} → statement M
 is-sound-spec =
     tie.close
     (tie.spec
     returns
-    part-requires
-    table-is-sound-requires
+    (λ c κs. search needs)
+    (λ c κs. search needs)
     returns-2
-    word-at-requires
-    mul-if3
+    (λ c κs. search needs)
+    (λ c. search needs)
     returns-3
-    shared-slice-read-size
-    size-requires
+    (λ c κs. search needs)
+    (λ c κs. search needs)
     records-are-sound-requires
     returns-4
-    shared-slice-read-size-2
-    size-requires-2
+    (λ c κs. search needs)
+    (λ c κs. search needs)
     headers-are-sound-requires
     returns-5)

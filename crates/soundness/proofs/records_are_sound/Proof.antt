@@ -4,10 +4,10 @@ use native.Mathlib.Omega.{arith}
 use mathlib.Core.Path.{_≡_, sym, ap, _∙_}
 use Prim.Native.Nat.{_+_, _-_, _≤_}
 use borrow.Author.Tests.{not-true, not-false}
-use Rattle.sector.specs.Lists.{every, from}
+use Rattle.lists.specs.Lists.{every, from}
 use Rattle.sector.specs.Decoding.{decodeTable}
-use Rattle.soundness.specs.Record.{recordSound, recordSoundIn}
-use Rattle.sector.proofs.TestLaws.{numbers-more, numbers-fail, numbers-done, numbers-none}
+use Rattle.lists.proofs.TestLaws.{numbers-more, numbers-fail, numbers-done, numbers-none}
+use Rattle.record_test.specs.Record.{recordSound, recordSoundIn}
 use Rattle.soundness.proofs.records_are_sound.Statement.{statement}
 use Rattle.soundness.proofs.records_are_sound.Tie as tie
 
@@ -22,45 +22,29 @@ abbrev μ-loop : tie.MeasureT-loop
 loop-holds : tie.Need-loop-holds Inv-loop μ-loop
 loop-holds c =
     let a = c .before .before .args in
-    let all = numbers-none (recordSoundIn (decodeTable (a .table .now)) (a .v .now)) 1 (a .n) (a .n + 1) (omega arith) in
-    (omega arith, omega arith, all)
-
-part-requires : tie.Need-part-requires Inv-loop μ-loop
-part-requires c κs = search needs
-
-record-is-sound-requires : tie.Need-record-is-sound-requires Inv-loop μ-loop
-record-is-sound-requires c κs = search needs
+    (omega arith, omega arith, numbers-none (recordSoundIn (decodeTable (a .table .now)) (a .v .now)) 1 (a .n) (a .n + 1) (omega arith))
 
 returns : tie.Need-returns Inv-loop μ-loop
 returns c =
     let at = c .before .before .before .before in
     let a = at .before .before .before .args in
     let t = decodeTable (a .table .now) in
-    let same = ap (recordSound t) (sym (c .before .before .part .ensures .0)) in
-    let e = same ∙ sym (c .before .record-is-sound .ensures) ∙ not-true _ (c .if1 .taken) in
+    let e = ap (recordSound t) (sym (c .before .before .part .ensures .0)) ∙ sym (c .before .record-is-sound .ensures) ∙ not-true _ (c .if1 .taken) in
     sym (numbers-fail (recordSoundIn t (a .v .now)) _ (a .n + 1) (at .loop .k) (at .loop .inv .2) (omega arith) e)
-
-add-k : tie.Need-add-k Inv-loop μ-loop
-add-k c = search needs
-
-loop-less : tie.Need-loop-less Inv-loop μ-loop
-loop-less c = search needs
 
 loop-again : tie.Need-loop-again Inv-loop μ-loop
 loop-again c =
     let at = c .before .before .before .before in
     let a = at .before .before .before .args in
     let t = decodeTable (a .table .now) in
-    let same = ap (recordSound t) (sym (c .before .before .part .ensures .0)) in
-    let e = same ∙ sym (c .before .record-is-sound .ensures) ∙ not-false _ (c .if1 .left) in
+    let e = ap (recordSound t) (sym (c .before .before .part .ensures .0)) ∙ sym (c .before .record-is-sound .ensures) ∙ not-false _ (c .if1 .left) in
     (omega arith, omega arith, numbers-more (recordSoundIn t (a .v .now)) _ (a .n + 1) (at .loop .k) (at .loop .inv .2) (omega arith) e)
 
 returns-2 : tie.Need-returns-2 Inv-loop μ-loop
 returns-2 c =
     let at = c .before in
     let a = at .before .before .before .args in
-    let t = decodeTable (a .table .now) in
-    sym (numbers-done (recordSoundIn t (a .v .now)) _ (a .n + 1) (at .loop .k) (at .loop .inv .2) (omega arith))
+    sym (numbers-done (recordSoundIn (decodeTable (a .table .now)) (a .v .now)) _ (a .n + 1) (at .loop .k) (at .loop .inv .2) (omega arith))
 
 pub records-are-sound-spec : {M : Type 1} → statement M
 records-are-sound-spec =
@@ -69,10 +53,10 @@ records-are-sound-spec =
     Inv-loop
     μ-loop
     loop-holds
-    part-requires
-    record-is-sound-requires
+    (λ c κs. search needs)
+    (λ c κs. search needs)
     returns
-    add-k
-    loop-less
+    (λ c. search needs)
+    (λ c. search needs)
     loop-again
     returns-2)

@@ -3,14 +3,8 @@ use borrow.Author.Needs.{needs}
 use Rattle.capi.proofs.pack.pack.Statement.{statement}
 use Rattle.capi.proofs.pack.pack.Tie as tie
 
-session-byte-requires : tie.Need-session-byte-requires
-session-byte-requires c κs = search needs
-
-pack-outcome-requires : tie.Need-pack-outcome-requires
-pack-outcome-requires c κs = search needs
-
 returns : tie.Need-returns
 returns c = rw (c .pack-outcome .ensures, c .before .session-byte .ensures .0)
 
 pub pack-spec : {M : Type 1} → statement M
-pack-spec = tie.close (tie.spec session-byte-requires pack-outcome-requires returns)
+pack-spec = tie.close (tie.spec (λ c κs. search needs) (λ c κs. search needs) returns)

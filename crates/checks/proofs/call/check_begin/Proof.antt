@@ -1,45 +1,37 @@
--- `check_begin` meets its contract: one part of its tests after the other.
-use mathlib.Core.Path.{refl, sym, ap, _∙_}
+-- `check_begin` meets its contract: the tests of every call, then the mark.
+use mathlib.Core.Path.{refl, sym, _∙_}
 use borrow.Author.Needs.{needs}
-use Rattle.volume.specs.Volumes.{view}
-use Rattle.volume.specs.Sound.{sound}
 use Rattle.rules.specs.Refusals.{tests}
-use Rattle.checks.specs.Verdicts.{numberOf, clientTests, beginTests}
-use Rattle.checks.proofs.VerdictLaws.{numbered, first-refuses, first-accepts, client-low}
+use Rattle.lists.proofs.SearchLaws.{one-holds, one-fails}
+use Rattle.checks.proofs.VerdictLaws.{accepted, refuses, accepts, client-low}
 use Rattle.checks.proofs.call.check_begin.Statement.{statement}
 use Rattle.checks.proofs.call.check_begin.Tie as tie
-
-is-sound-requires : tie.Need-is-sound-requires
-is-sound-requires c κs = search needs
 
 check-client-requires : tie.Need-check-client-requires
 check-client-requires c κs = c .is-sound .ensures
 
-enum-known-r : tie.Need-enum-known-r
-enum-known-r c = search needs
-
-enum-told : tie.Need-enum-told
-enum-told c = search needs
-
-check-inactive-requires : tie.Need-check-inactive-requires
-check-inactive-requires c κs =
+is-active-requires : tie.Need-is-active-requires
+is-active-requires c κs =
     let q = c .before .before in
     let s = q .before .before .before in
-    client-low (s .args .v .now) (s .args .s) (s .args .k) (ap numberOf (sym (c .enum-told .given .1)) ∙ q .check-client .ensures)
+    client-low (s .args .v .now) (s .args .s) (s .args .k) (accepted _ (c .enum-told .given .1) (q .check-client .ensures))
 
 returns : tie.Need-returns
 unfolding tests
 returns c =
-    let q = c .before .before .before in
-    let s = q .before .before .before in
-    first-refuses _ (clientTests (sound (s .args .v .now)) (view (s .args .v .now)) (s .args .s) (s .args .k)) (beginTests (s .args .s) (s .args .k)) (numbered (c .before .r .given .0 .0)) (ap numberOf (sym (c .before .r .given .1)) ∙ q .check-client .ensures)
+    let t = c .before .before in
+    accepts _ _ (t .enum-told .given .1) (t .before .before .check-client .ensures) refl (one-holds _ (sym (c .before .is-active .ensures) ∙ c .if1 .taken))
 
 returns-2 : tie.Need-returns-2
 unfolding tests
-returns-2 c =
-    let q = c .before .before .before in
-    let s = q .before .before .before in
-    first-accepts _ (clientTests (sound (s .args .v .now)) (view (s .args .v .now)) (s .args .s) (s .args .k)) (beginTests (s .args .s) (s .args .k)) refl (ap numberOf (sym (c .before .enum-told .given .1)) ∙ q .check-client .ensures) (c .check-inactive .ensures)
+returns-2 c = refuses _ _ (c .before .r .given .1) (c .before .before .before .check-client .ensures)
+
+returns-3 : tie.Need-returns-3
+unfolding tests
+returns-3 c =
+    let t = c .before .before in
+    accepts _ _ (t .enum-told .given .1) (t .before .before .check-client .ensures) refl (one-fails _ (sym (c .before .is-active .ensures) ∙ c .if1 .left))
 
 pub check-begin-spec : {M : Type 1} → statement M
-check-begin-spec = tie.close (tie.spec is-sound-requires check-client-requires enum-known-r enum-told check-inactive-requires returns returns-2)
+check-begin-spec = tie.close (tie.spec (λ c κs. search needs) check-client-requires (λ c. search needs)
+    (λ c. search needs) is-active-requires returns returns-2 returns-3)

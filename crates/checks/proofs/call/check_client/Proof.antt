@@ -1,8 +1,8 @@
 -- `check_client` meets its contract: the first test that fails gives its number.
 use mathlib.Core.Path.{sym, _∙_}
 use borrow.Author.Tests.{not-true, not-false, le-leb, lt-leb}
-use Rattle.sector.specs.Lists.{first}
-use Rattle.volume.proofs.KnownLaws.{sound-known}
+use Rattle.lists.specs.Lists.{first}
+use Rattle.volume.proofs.WellFormedLaws.{sound-formed}
 use Rattle.checks.proofs.call.check_client.Statement.{statement}
 use Rattle.checks.proofs.call.check_client.Tie as tie
 
@@ -13,7 +13,7 @@ returns c = rw (sym (c .before .before .pre) ∙ not-true _ (c .if1 .taken))
 session-fits-requires : tie.Need-session-fits-requires
 session-fits-requires c κs =
     let s = c .before .before in
-    sound-known (s .args .v .now) (sym (s .pre) ∙ not-false _ (c .if1 .left))
+    sound-formed (s .args .v .now) (sym (s .pre) ∙ not-false _ (c .if1 .left))
 
 returns-2 : tie.Need-returns-2
 unfolding first
@@ -32,7 +32,7 @@ clients-requires : tie.Need-clients-requires
 clients-requires c κs =
     let o = c .before .before .before in
     let s = o .before .before in
-    sound-known (s .args .v .now) (sym (s .pre) ∙ not-false _ (o .if1 .left))
+    sound-formed (s .args .v .now) (sym (s .pre) ∙ not-false _ (o .if1 .left))
 
 returns-4 : tie.Need-returns-4
 unfolding first
@@ -51,4 +51,5 @@ returns-5 c =
     rw (sym (o .before .before .pre) ∙ not-false _ (o .if1 .left), sym (f .before .session-fits .ensures) ∙ not-false _ (f .if2 .left), le-leb 1 _ (k .if3 .left), le-leb _ _ (rw (c .before .clients .ensures) at (c .if4 .left)))
 
 pub check-client-spec : {M : Type 1} → statement M
-check-client-spec = tie.close (tie.spec returns session-fits-requires returns-2 returns-3 clients-requires returns-4 returns-5)
+check-client-spec = tie.close (tie.spec returns session-fits-requires returns-2 returns-3 clients-requires returns-4
+    returns-5)

@@ -1,39 +1,36 @@
 -- `check_free` meets its contract: the first test that fails gives its number.
 use mathlib.Core.Path.{sym, _∙_}
-use borrow.Author.Needs.{needs}
-use borrow.Author.Tests.{le-leb, lt-leb}
-use Rattle.sector.specs.Lists.{first}
-use Rattle.volume.proofs.KnownLaws.{sound-known}
+use borrow.Author.Tests.{not-true, not-false}
+use Rattle.lists.specs.Lists.{first}
+use Rattle.volume.specs.Volumes.{view}
+use Rattle.volume.proofs.PlaceLaws.{file-of}
+use Rattle.volume.proofs.WellFormedLaws.{sound-formed}
 use Rattle.checks.proofs.call.check_free.Statement.{statement}
 use Rattle.checks.proofs.call.check_free.Tie as tie
 
+is-file-requires : tie.Need-is-file-requires
+is-file-requires c κs = sound-formed (c .before .args .v .now) (c .before .pre)
+
 returns : tie.Need-returns
 unfolding first
-returns c = rw (lt-leb 1 _ (c .if1 .taken))
-
-files-requires : tie.Need-files-requires
-files-requires c κs = let s = c .before .before in sound-known (s .args .v .now) (s .pre)
-
-returns-2 : tie.Need-returns-2
-unfolding first
-returns-2 c = rw (le-leb 1 _ (c .before .before .if1 .left), lt-leb _ _ (rw (c .before .files .ensures) at (c .if2 .taken)))
+returns c = rw (sym (c .before .is-file .ensures) ∙ not-true _ (c .if1 .taken))
 
 held-by-other-requires : tie.Need-held-by-other-requires
 held-by-other-requires c κs =
-    let s = c .before .before .before .before in
-    (s .pre, record { low = c .before .before .if1 .left; high = rw (c .before .files .ensures) at (c .if2 .left) })
+    let s = c .before .before .before in
+    (s .pre, file-of (view (s .args .v .now) .table) (s .args .f) (sym (c .before .is-file .ensures) ∙ not-false _ (c .if1 .left)))
+
+returns-2 : tie.Need-returns-2
+unfolding first
+returns-2 c =
+    let o = c .before .before in
+    rw (sym (o .before .is-file .ensures) ∙ not-false _ (o .if1 .left), sym (c .before .held-by-other .ensures) ∙ c .if2 .taken)
 
 returns-3 : tie.Need-returns-3
 unfolding first
 returns-3 c =
     let o = c .before .before in
-    rw (le-leb 1 _ (o .before .before .if1 .left), le-leb _ _ (rw (o .before .files .ensures) at (o .if2 .left)), sym (c .before .held-by-other .ensures) ∙ c .if3 .taken)
-
-returns-4 : tie.Need-returns-4
-unfolding first
-returns-4 c =
-    let o = c .before .before in
-    rw (le-leb 1 _ (o .before .before .if1 .left), le-leb _ _ (rw (o .before .files .ensures) at (o .if2 .left)), sym (c .before .held-by-other .ensures) ∙ c .if3 .left)
+    rw (sym (o .before .is-file .ensures) ∙ not-false _ (o .if1 .left), sym (c .before .held-by-other .ensures) ∙ c .if2 .left)
 
 pub check-free-spec : {M : Type 1} → statement M
-check-free-spec = tie.close (tie.spec returns files-requires returns-2 held-by-other-requires returns-3 returns-4)
+check-free-spec = tie.close (tie.spec is-file-requires returns held-by-other-requires returns-2 returns-3)

@@ -1,44 +1,27 @@
--- `check_open` meets its contract: one part of its tests after the other.
-use mathlib.Core.Path.{refl, sym, ap, _∙_}
+-- `check_open` meets its contract: the tests of an active client, then its own.
+use mathlib.Core.Path.{refl, sym}
 use borrow.Author.Needs.{needs}
-use Rattle.volume.specs.Volumes.{view}
-use Rattle.volume.specs.Sound.{sound}
 use Rattle.rules.specs.Plans.{commit}
 use Rattle.rules.specs.Refusals.{tests}
-use Rattle.rules.proofs.AllowedLaws.{allowed-sound}
-use Rattle.checks.specs.Verdicts.{numberOf, openTests}
-use Rattle.checks.proofs.VerdictLaws.{numbered, first-refuses, first-accepts}
+use Rattle.rules.proofs.AllowedLaws.{passed-first, ordered}
+use Rattle.checks.proofs.VerdictLaws.{accepted, refuses, accepts}
 use Rattle.checks.proofs.call.check_open.Statement.{statement}
 use Rattle.checks.proofs.call.check_open.Tie as tie
-
-check-active-requires : tie.Need-check-active-requires
-check-active-requires c κs = search needs
-
-enum-known-r : tie.Need-enum-known-r
-enum-known-r c = search needs
-
-enum-told : tie.Need-enum-told
-enum-told c = search needs
 
 check-free-requires : tie.Need-check-free-requires
 check-free-requires c κs =
     let q = c .before .before in
     let s = q .before .before in
-    allowed-sound (s .args .v .now) (s .args .s) (commit (s .args .k)) (sym (ap numberOf (sym (c .enum-told .given .1)) ∙ q .check-active .ensures))
+    passed-first (ordered _ _ (s .args .s) (commit (s .args .k))) (sym (accepted _ (c .enum-told .given .1) (q .check-active .ensures)))
 
 returns : tie.Need-returns
 unfolding tests
-returns c =
-    let q = c .before .before .before in
-    let s = q .before .before in
-    first-refuses _ (tests (sound (s .args .v .now)) (view (s .args .v .now)) (s .args .s) (commit (s .args .k))) (openTests (view (s .args .v .now)) (s .args .s) (s .args .k) (s .args .f)) (numbered (c .before .r .given .0 .0)) (ap numberOf (sym (c .before .r .given .1)) ∙ q .check-active .ensures)
+returns c = refuses _ _ (c .before .r .given .1) (c .before .before .before .check-active .ensures)
 
 returns-2 : tie.Need-returns-2
 unfolding tests
-returns-2 c =
-    let q = c .before .before .before in
-    let s = q .before .before in
-    first-accepts _ (tests (sound (s .args .v .now)) (view (s .args .v .now)) (s .args .s) (commit (s .args .k))) (openTests (view (s .args .v .now)) (s .args .s) (s .args .k) (s .args .f)) refl (ap numberOf (sym (c .before .enum-told .given .1)) ∙ q .check-active .ensures) (c .check-free .ensures)
+returns-2 c = accepts _ _ (c .before .enum-told .given .1) (c .before .before .before .check-active .ensures) refl (c .check-free .ensures)
 
 pub check-open-spec : {M : Type 1} → statement M
-check-open-spec = tie.close (tie.spec check-active-requires enum-known-r enum-told check-free-requires returns returns-2)
+check-open-spec = tie.close (tie.spec (λ c κs. search needs) (λ c. search needs) (λ c. search needs) check-free-requires
+    returns returns-2)

@@ -2,15 +2,15 @@
 use mathlib.Core.Path.{sym, _∙_}
 use mathlib.Core.Logic.{_≢_}
 use native.Mathlib.Omega.{arith}
-use borrow.Author.Needs.{needs}
 use borrow.Author.Tests.{eq-eqb, ne-eqb}
-use Rattle.volume.proofs.KnownLaws.{sound-known}
-use Rattle.checks.proofs.VerdictLaws.{holder-few}
+use Rattle.volume.proofs.WellFormedLaws.{sound-formed}
+use Rattle.volume.proofs.LawfulLaws.{lawful-facts, holder-four}
+use Rattle.volume.proofs.SoundLaws.{sound-lawful}
 use Rattle.checks.proofs.call.held_by_other.Statement.{statement}
 use Rattle.checks.proofs.call.held_by_other.Tie as tie
 
 holder-requires : tie.Need-holder-requires
-holder-requires c κs = let s = c .before in (sound-known (s .args .v .now) (s .pre .0), s .pre .1)
+holder-requires c κs = let s = c .before in (sound-formed (s .args .v .now) (s .pre .0), s .pre .1)
 
 returns : tie.Need-returns
 returns c = rw (eq-eqb _ _ (sym (c .before .holder .ensures) ∙ c .if1 .taken))
@@ -26,7 +26,7 @@ is-active-requires c κs =
     let h = c .before .before in
     let s = h .before .before in
     let some : h .holder .result ≢ 0 = c .before .if1 .left in
-    let few = holder-few (s .args .v .now) (s .pre .0) (s .args .f) (s .pre .1) in
+    let few = holder-four (lawful-facts _ (sound-lawful (s .args .v .now) (s .pre .0))) (s .args .f) (s .pre .1) in
     (omega arith, rw (h .holder .ensures) few)
 
 returns-3 : tie.Need-returns-3

@@ -4,12 +4,6 @@ use borrow.Author.Needs.{needs}
 use Rattle.checks.proofs.session.client_fits.Statement.{statement}
 use Rattle.checks.proofs.session.client_fits.Tie as tie
 
-is-active-requires : tie.Need-is-active-requires
-is-active-requires c κs = search needs
-
-mark-fits-requires : tie.Need-mark-fits-requires
-mark-fits-requires c κs = search needs
-
 returns : tie.Need-returns
 returns c =
     let t = c .before in
@@ -19,4 +13,4 @@ returns-2 : tie.Need-returns-2
 returns-2 c = rw (sym (c .before .is-active .ensures) ∙ c .if1 .left)
 
 pub client-fits-spec : {M : Type 1} → statement M
-client-fits-spec = tie.close (tie.spec is-active-requires mark-fits-requires returns returns-2)
+client-fits-spec = tie.close (tie.spec (λ c κs. search needs) (λ c κs. search needs) returns returns-2)

@@ -1,17 +1,16 @@
 -- `entries_held` meets its contract: what is left of the entries decides.
 use mathlib.Core.Path.{_≡_, refl, sym, _∙_}
-use mathlib.Core.Bool.{true}
 use Prim.Native.Nat.{_-_, _≤_, _<_}
 use native.Mathlib.Omega.{arith}
 use borrow.Author.Needs.{needs}
 use borrow.Author.Tests.{eq-eqb, ne-eqb}
 use lib.ListN.{length, drop, drop-of-length-le}
-use Rattle.sector.specs.Lists.{every}
+use Rattle.lists.specs.Lists.{every}
 use Rattle.sector.specs.Contents.{Entry, Record}
-use Rattle.sector.proofs.TestLaws.{drop-next, every-more, every-fails}
+use Rattle.lists.proofs.TestLaws.{drop-next, every-more, every-fails}
 use Rattle.volume.specs.Views.{View}
 use Rattle.volume.specs.Volumes.{view}
-use Rattle.volume.specs.Known.{noEntry}
+use Rattle.volume.specs.WellFormed.{noEntry}
 use Rattle.volume.proofs.ReadLaws.{entry-file-is}
 use Rattle.rules.specs.Sessions.{holds}
 use Rattle.checks.proofs.session.entries_held.Statement.{statement}
@@ -23,14 +22,8 @@ Inv-loop v k n i₀ i = (i ≤ n) × (n ≡ length (view v .records k .entries))
 abbrev μ-loop : tie.MeasureT-loop
 μ-loop v k n i₀ i = n - i
 
-entry-count-requires : tie.Need-entry-count-requires Inv-loop μ-loop
-entry-count-requires c κs = search needs
-
-size-requires : tie.Need-size-requires Inv-loop μ-loop
-size-requires c κs = search needs
-
 loop-holds : tie.Need-loop-holds Inv-loop μ-loop
-loop-holds c = (omega arith, c .size .ensures .0 ∙ c .before .entry-count .ensures .0, refl)
+loop-holds c = (omega arith, c .wide .ensures .0 ∙ c .before .entry-count .ensures .0, refl)
 
 entry-file-requires : tie.Need-entry-file-requires Inv-loop μ-loop
 entry-file-requires c κs =
@@ -53,12 +46,6 @@ returns c =
     let lt : at .loop .i < length (view (s .args .v .now) .records (s .args .k) .entries) = omega (arith, h .before .before .loop-test .taken) in
     sym (every-fails _ (at .loop .i) _ (drop-next _ (at .loop .i) noEntry lt) _ _ (ne-eqb _ _ (λ q. c .if1 .taken (h .holder .ensures ∙ rw (h .before .entry-file .ensures) q))) (at .loop .inv .2))
 
-add-i : tie.Need-add-i Inv-loop μ-loop
-add-i c = search needs
-
-loop-less : tie.Need-loop-less Inv-loop μ-loop
-loop-less c = search needs
-
 loop-again : tie.Need-loop-again Inv-loop μ-loop
 loop-again c =
     let h = c .before in
@@ -78,4 +65,5 @@ returns-2 c =
     sym (at .loop .inv .2 ∙ rw (drop-of-length-le (view (s .args .v .now) .records (s .args .k) .entries) {i = at .loop .i} z))
 
 pub entries-held-spec : {M : Type 1} → statement M
-entries-held-spec = tie.close (tie.spec Inv-loop μ-loop entry-count-requires size-requires loop-holds entry-file-requires holder-requires returns add-i loop-less loop-again returns-2)
+entries-held-spec = tie.close (tie.spec Inv-loop μ-loop (λ c κs. search needs) (λ c κs. search needs) loop-holds
+    entry-file-requires holder-requires returns (λ c. search needs) (λ c. search needs) loop-again returns-2)

@@ -2,13 +2,10 @@
 use mathlib.Core.Path.{sym, _∙_}
 use borrow.Author.Needs.{needs}
 use borrow.Author.Tests.{lt-leb, le-leb, eq-eqb, ne-eqb}
-use Rattle.sector.proofs.TestLaws.{all-no, all-last, _then_, final}
+use Rattle.lists.proofs.TestLaws.{all-no, all-last, _then_, final}
 use Rattle.rules.specs.Sessions.{markFits}
 use Rattle.checks.proofs.session.mark_fits.Statement.{statement}
 use Rattle.checks.proofs.session.mark_fits.Tie as tie
-
-clients-requires : tie.Need-clients-requires
-clients-requires c κs = search needs
 
 returns : tie.Need-returns
 unfolding markFits
@@ -39,4 +36,5 @@ returns-3 c =
     c .entries-held .ensures ∙ sym (all-last (fits then opened then final))
 
 pub mark-fits-spec : {M : Type 1} → statement M
-mark-fits-spec = tie.close (tie.spec clients-requires returns state-requires returns-2 entries-held-requires returns-3)
+mark-fits-spec = tie.close (tie.spec (λ c κs. search needs) returns state-requires returns-2 entries-held-requires
+    returns-3)

@@ -5,8 +5,8 @@ use Prim.Native.Nat.{_-_, _≤_}
 use native.Mathlib.Omega.{arith}
 use borrow.Author.Needs.{needs}
 use borrow.Author.Tests.{not-true, not-false}
-use Rattle.sector.specs.Lists.{every, from}
-use Rattle.sector.proofs.TestLaws.{numbers-more, numbers-fail, numbers-done}
+use Rattle.lists.specs.Lists.{every, from}
+use Rattle.lists.proofs.TestLaws.{numbers-more, numbers-fail, numbers-done}
 use Rattle.volume.specs.Volumes.{view}
 use Rattle.rules.specs.Sessions.{isActive, markFits, sessionFits}
 use Rattle.checks.proofs.session.session_fits.Statement.{statement}
@@ -31,12 +31,6 @@ returns c =
     let at = f .before .before in
     sym (numbers-fail _ _ 5 (at .loop .k) (at .loop .inv .2) (f .before .loop-test .taken) (sym (f .client-fits .ensures) ∙ not-true _ (c .if1 .taken)))
 
-add-k : tie.Need-add-k Inv-loop μ-loop
-add-k c = search needs
-
-loop-less : tie.Need-loop-less Inv-loop μ-loop
-loop-less c = search needs
-
 loop-again : tie.Need-loop-again Inv-loop μ-loop
 loop-again c =
     let f = c .before in
@@ -49,4 +43,5 @@ returns-2 c =
     sym (numbers-done _ _ 5 (at .loop .k) (at .loop .inv .2) (c .loop-test .left))
 
 pub session-fits-spec : {M : Type 1} → statement M
-session-fits-spec = tie.close (tie.spec Inv-loop μ-loop loop-holds client-fits-requires returns add-k loop-less loop-again returns-2)
+session-fits-spec = tie.close (tie.spec Inv-loop μ-loop loop-holds client-fits-requires returns (λ c. search needs)
+    (λ c. search needs) loop-again returns-2)

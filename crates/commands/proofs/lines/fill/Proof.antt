@@ -1,5 +1,5 @@
 -- `fill` meets its contract: up to i there are the values.
-use mathlib.Core.Path.{_≡_, sym, _∙_}
+use mathlib.Core.Path.{_≡_, _∙_}
 use Prim.Native.Nat.{_+_, _-_, _%_, _≤_}
 use native.Mathlib.Omega.{arith}
 use borrow.Author.Needs.{needs}
@@ -18,29 +18,11 @@ abbrev μ-loop : tie.MeasureT-loop
 loop-holds : tie.Need-loop-holds Inv-loop μ-loop
 loop-holds c = (omega arith, c .pre .0, values-none _ (c .args .buf .now))
 
-size-requires : tie.Need-size-requires Inv-loop μ-loop
-size-requires c κs = search needs
-
-add-low : tie.Need-add-low Inv-loop μ-loop
-add-low c = search needs
-
-low-requires : tie.Need-low-requires Inv-loop μ-loop
-low-requires c κs = search needs
-
-element-write-buf : tie.Need-element-write-buf Inv-loop μ-loop
-element-write-buf c = search needs
-
-add-i : tie.Need-add-i Inv-loop μ-loop
-add-i c = search needs
-
-loop-less : tie.Need-loop-less Inv-loop μ-loop
-loop-less c = search needs
-
 loop-again : tie.Need-loop-again Inv-loop μ-loop
 loop-again c =
     let l = c .before .before .before in
     let s = l .before in
-    (omega arith, simp length-set (l .loop .inv .1), values-more (λ j. (s .args .seed + j) % 256) (l .loop .buf) (l .loop .i) (c .low .result) (omega (arith, s .pre .1)) (c .low .ensures ∙ rw (c .before .size .ensures .0)) (l .loop .inv .2))
+    (omega arith, simp length-set (l .loop .inv .1), values-more (λ j. (s .args .seed + j) % 256) (l .loop .buf) (l .loop .i) (c .low .result) (omega (arith, s .pre .1)) (c .low .ensures ∙ rw (c .before .wide .ensures .0)) (l .loop .inv .2))
 
 returns : tie.Need-returns Inv-loop μ-loop
 returns c =
@@ -49,17 +31,5 @@ returns c =
     ((rw (← e) (l .loop .inv .2), l .loop .inv .1), (omega (arith, l .loop .inv .1, l .before .pre .1), omega (arith, l .loop .inv .1, l .before .pre .1, length-take (l .before .args .n) (l .loop .buf))))
 
 pub fill-spec : {M : Type 1} → statement M
-fill-spec =
-    tie.close
-    (tie.spec
-    Inv-loop
-    μ-loop
-    loop-holds
-    size-requires
-    add-low
-    low-requires
-    element-write-buf
-    add-i
-    loop-less
-    loop-again
-    returns)
+fill-spec = tie.close (tie.spec Inv-loop μ-loop loop-holds (λ c κs. search needs) (λ c. search needs)
+    (λ c κs. search needs) (λ c. search needs) (λ c. search needs) (λ c. search needs) loop-again returns)

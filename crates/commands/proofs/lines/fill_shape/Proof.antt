@@ -18,21 +18,6 @@ abbrev μ-loop : tie.MeasureT-loop
 loop-holds : tie.Need-loop-holds Inv-loop μ-loop
 loop-holds c = (omega arith, c .before .pre .0, values-none _ (c .before .args .buf .now))
 
-add-byte-argument : tie.Need-add-byte-argument Inv-loop μ-loop
-add-byte-argument c = search needs
-
-byte-argument-requires : tie.Need-byte-argument-requires Inv-loop μ-loop
-byte-argument-requires c κs = search needs
-
-element-write-buf : tie.Need-element-write-buf Inv-loop μ-loop
-element-write-buf c = search needs
-
-add-i : tie.Need-add-i Inv-loop μ-loop
-add-i c = search needs
-
-loop-less : tie.Need-loop-less Inv-loop μ-loop
-loop-less c = search needs
-
 loop-again : tie.Need-loop-again Inv-loop μ-loop
 loop-again c =
     let l = c .before .before in
@@ -46,16 +31,5 @@ returns c =
     ((rw (← e) (l .loop .inv .2), l .loop .inv .1), (omega (arith, l .loop .inv .1, l .before .before .pre .1), omega (arith, l .loop .inv .1, l .before .before .pre .1, length-take (l .before .before .args .n) (l .loop .buf))))
 
 pub fill-shape-spec : {M : Type 1} → statement M
-fill-shape-spec =
-    tie.close
-    (tie.spec
-    Inv-loop
-    μ-loop
-    loop-holds
-    add-byte-argument
-    byte-argument-requires
-    element-write-buf
-    add-i
-    loop-less
-    loop-again
-    returns)
+fill-shape-spec = tie.close (tie.spec Inv-loop μ-loop loop-holds (λ c. search needs) (λ c κs. search needs)
+    (λ c. search needs) (λ c. search needs) (λ c. search needs) loop-again returns)

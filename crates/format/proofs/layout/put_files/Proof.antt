@@ -7,14 +7,15 @@ use Prim.Native.Nat.{ℕ, _*_, _-_, _/_, _≤_, _<_}
 use native.Mathlib.Omega.{arith}
 use borrow.Author.Needs.{needs}
 use lib.ListN.{length, drop}
-use Rattle.sector.specs.Lists.{every}
+use Rattle.lists.specs.Lists.{every}
 use Rattle.volume.specs.Places.{sectorAfter}
 use Rattle.volume.specs.Lawful.{fileFits}
-use Rattle.volume.specs.Format.{filesOf, newFiles}
-use Rattle.format.specs.Requests.{pairAt}
-use Rattle.format.specs.Puts.{Puts}
-use Rattle.format.proofs.PutsLaws.{puts-zeros}
-use Rattle.format.proofs.RequestLaws.{files-end, rest-fits, after-turn}
+use Rattle.sector.specs.Shapes.{filesOf}
+use Rattle.volume.specs.Format.{newFiles}
+use Rattle.sector.specs.Puts.{Puts}
+use Rattle.sector.proofs.PutsLaws.{puts-zeros}
+use Rattle.sector.proofs.ShapeLaws.{files-end}
+use Rattle.format.proofs.RequestLaws.{rest-fits, after-turn}
 use Rattle.format.proofs.LayoutLaws.{files-turn, file-room, file-pages}
 use Rattle.format.proofs.layout.put_files.Statement.{statement}
 use Rattle.format.proofs.layout.put_files.Tie as tie
@@ -31,72 +32,45 @@ abbrev μ-loop : tie.MeasureT-loop
 loop-holds : tie.Need-loop-holds Inv-loop μ-loop
 loop-holds c =
     let s = c .before .before in
-    (omega arith, refl, refl, s .pre .0, s .pre .2, λ w x. x)
-
-mul-put-header : tie.Need-mul-put-header Inv-loop μ-loop
-mul-put-header c = search needs
-
-shared-slice-read-put-header : tie.Need-shared-slice-read-put-header Inv-loop μ-loop
-shared-slice-read-put-header c = search needs
+    (omega arith, refl, refl, s .pre .0, s .pre .3, λ w x. x)
 
 put-header-requires : tie.Need-put-header-requires Inv-loop μ-loop
 put-header-requires c κs =
-    let at = c .before .before .before in
+    let at = c .before .before in
     let s = at .before .before .before in
     let l = s .args .shape .now in
     let lt : at .loop .i < length l / 2 = omega arith in
     let room = file-room l (at .loop .i) (at .loop .h) (length (s .args .v .now)) lt (at .loop .inv .3) in
-    (omega arith, omega arith, file-pages l (at .loop .i) lt (at .loop .inv .4))
+    (omega arith, omega arith, s .pre .2, lt, file-pages l (at .loop .i) lt (at .loop .inv .4))
 
 add-h : tie.Need-add-h Inv-loop μ-loop
 add-h c =
-    let at = c .before .before .before .before .before .before in
+    let at = c .before .before .before .before .before in
     let s = at .before .before .before in
     let room = file-room (s .args .shape .now) (at .loop .i) (at .loop .h) (length (s .args .v .now)) (omega arith) (at .loop .inv .3) in
     omega arith
-
-mul-size : tie.Need-mul-size Inv-loop μ-loop
-mul-size c = search needs
-
-add-size : tie.Need-add-size Inv-loop μ-loop
-add-size c = search needs
-
-shared-slice-read-size : tie.Need-shared-slice-read-size Inv-loop μ-loop
-shared-slice-read-size c = search needs
-
-size-requires : tie.Need-size-requires Inv-loop μ-loop
-size-requires c κs = search needs
 
 add-h-2 : tie.Need-add-h-2 Inv-loop μ-loop
 add-h-2 c =
-    let at = c .before .before .before .before .before .before .before .before in
+    let at = c .before .before .before .before .before .before .before in
     let s = at .before .before .before in
     let room = file-room (s .args .shape .now) (at .loop .i) (at .loop .h) (length (s .args .v .now)) (omega arith) (at .loop .inv .3) in
     omega arith
-
-add-i : tie.Need-add-i Inv-loop μ-loop
-add-i c = search needs
-
-loop-less : tie.Need-loop-less Inv-loop μ-loop
-loop-less c = search needs
 
 loop-again : tie.Need-loop-again Inv-loop μ-loop
 loop-again c =
     let p = c .before .before .before .before in
-    let at = p .before .before .before .before in
+    let at = p .before .before .before in
     let l = at .before .before .before .args .shape .now in
     let lt : at .loop .i < length l / 2 = omega arith in
     let turn = files-turn l (at .loop .i) (at .loop .h) (at .loop .v) lt (at .loop .inv .4) in (
       omega arith,
       refl,
       omega arith,
-      rw (c .size .ensures .0, after-turn l (at .loop .i) (at .loop .h) lt) (at .loop .inv .3),
+      rw (c .wide .ensures .0, after-turn l (at .loop .i) (at .loop .h) lt) (at .loop .inv .3),
       rest-fits l (at .loop .i) lt (at .loop .inv .4),
-      rw (c .size .ensures .0, p .put-header .ensures (pairAt l (at .loop .i))) (λ w x. at .loop .inv .5 w (turn w x)),
+      rw (c .wide .ensures .0, p .put-header .ensures) (λ w x. at .loop .inv .5 w (turn w x)),
     )
-
-same-length : tie.Need-same-length Inv-loop μ-loop
-same-length c = search needs
 
 returns : tie.Need-returns Inv-loop μ-loop
 unfolding newFiles
@@ -107,23 +81,6 @@ returns c =
     at .loop .inv .5 (at .loop .v) (rw z (puts-zeros (256 * at .loop .h) 0 (at .loop .v)))
 
 pub put-files-spec : {M : Type 1} → statement M
-put-files-spec =
-    tie.close
-    (tie.spec
-    Inv-loop
-    μ-loop
-    loop-holds
-    mul-put-header
-    shared-slice-read-put-header
-    put-header-requires
-    add-h
-    mul-size
-    add-size
-    shared-slice-read-size
-    size-requires
-    add-h-2
-    add-i
-    loop-less
-    loop-again
-    same-length
-    returns)
+put-files-spec = tie.close (tie.spec Inv-loop μ-loop loop-holds put-header-requires add-h (λ c. search needs)
+    (λ c. search needs) (λ c. search needs) (λ c κs. search needs) add-h-2 (λ c. search needs) (λ c. search needs)
+    loop-again (λ c. search needs) returns)

@@ -9,8 +9,8 @@ use lib.ListN.{length}
 use Rattle.sector.specs.Contents.{idleRecord}
 use Rattle.sector.specs.Encoding.{encodeRecord}
 use Rattle.volume.specs.Format.{repeated}
-use Rattle.format.specs.Puts.{Puts}
-use Rattle.format.proofs.PutsLaws.{puts-zeros}
+use Rattle.sector.specs.Puts.{Puts}
+use Rattle.sector.proofs.PutsLaws.{puts-zeros}
 use Rattle.format.proofs.LayoutLaws.{records-turn}
 use Rattle.format.proofs.layout.put_records.Statement.{statement}
 use Rattle.format.proofs.layout.put_records.Tie as tie
@@ -30,15 +30,6 @@ loop-holds c =
     let e : n + 1 - 1 ≡ n = omega arith in
     (omega arith, omega arith, refl, λ w x. rw e at x)
 
-put-record-requires : tie.Need-put-record-requires Inv-loop μ-loop
-put-record-requires c κs = search needs
-
-add-k : tie.Need-add-k Inv-loop μ-loop
-add-k c = search needs
-
-loop-less : tie.Need-loop-less Inv-loop μ-loop
-loop-less c = search needs
-
 loop-again : tie.Need-loop-again Inv-loop μ-loop
 loop-again c =
     let p = c .before .before in
@@ -46,9 +37,6 @@ loop-again c =
     let a = at .before .before .args in
     let turn = records-turn (a .clients) (at .loop .k) (at .loop .v) (at .loop .inv .0) (omega arith) in
     (omega arith, omega arith, omega arith, rw (p .put-record .ensures) (λ w x. at .loop .inv .3 w (turn w x)))
-
-same-length : tie.Need-same-length Inv-loop μ-loop
-same-length c = search needs
 
 returns : tie.Need-returns Inv-loop μ-loop
 unfolding repeated
@@ -58,15 +46,5 @@ returns c =
     (at .loop .inv .3 (at .loop .v) (rw e (puts-zeros (256 * at .loop .k) 0 (at .loop .v))), at .loop .inv .2)
 
 pub put-records-spec : {M : Type 1} → statement M
-put-records-spec =
-    tie.close
-    (tie.spec
-    Inv-loop
-    μ-loop
-    loop-holds
-    put-record-requires
-    add-k
-    loop-less
-    loop-again
-    same-length
-    returns)
+put-records-spec = tie.close (tie.spec Inv-loop μ-loop loop-holds (λ c κs. search needs) (λ c. search needs)
+    (λ c. search needs) loop-again (λ c. search needs) returns)

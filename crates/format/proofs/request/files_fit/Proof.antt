@@ -5,9 +5,9 @@ use native.Mathlib.Omega.{arith}
 use borrow.Author.Needs.{needs}
 use borrow.Author.Tests.{not-true, not-false}
 use lib.ListN.{length, drop}
-use Rattle.sector.specs.Lists.{every}
+use Rattle.lists.specs.Lists.{every}
 use Rattle.volume.specs.Lawful.{fileFits}
-use Rattle.volume.specs.Format.{filesOf}
+use Rattle.sector.specs.Shapes.{filesOf}
 use Rattle.format.proofs.RequestLaws.{fits-turn, fits-stop, fits-end}
 use Rattle.format.proofs.request.files_fit.Statement.{statement}
 use Rattle.format.proofs.request.files_fit.Tie as tie
@@ -21,35 +21,11 @@ abbrev μ-loop : tie.MeasureT-loop
 loop-holds : tie.Need-loop-holds Inv-loop μ-loop
 loop-holds c = (omega arith, refl, refl)
 
-mul-file-fits : tie.Need-mul-file-fits Inv-loop μ-loop
-mul-file-fits c = search needs
-
-shared-slice-read-file-fits : tie.Need-shared-slice-read-file-fits Inv-loop μ-loop
-shared-slice-read-file-fits c = search needs
-
-mul-file-fits-2 : tie.Need-mul-file-fits-2 Inv-loop μ-loop
-mul-file-fits-2 c = search needs
-
-add-file-fits : tie.Need-add-file-fits Inv-loop μ-loop
-add-file-fits c = search needs
-
-shared-slice-read-file-fits-2 : tie.Need-shared-slice-read-file-fits-2 Inv-loop μ-loop
-shared-slice-read-file-fits-2 c = search needs
-
-file-fits-requires : tie.Need-file-fits-requires Inv-loop μ-loop
-file-fits-requires c κs = search needs
-
 returns : tie.Need-returns Inv-loop μ-loop
 returns c =
     let at = c .before .before .before .before .before in
     let bad = sym (c .before .file-fits .ensures) ∙ not-true _ (c .if1 .taken) in
     sym (at .loop .inv .2 ∙ fits-stop (at .before .before .args .shape .now) (at .loop .i) (omega arith) bad)
-
-add-i : tie.Need-add-i Inv-loop μ-loop
-add-i c = search needs
-
-loop-less : tie.Need-loop-less Inv-loop μ-loop
-loop-less c = search needs
 
 loop-again : tie.Need-loop-again Inv-loop μ-loop
 loop-again c =
@@ -63,20 +39,6 @@ returns-2 c =
     sym (at .loop .inv .2 ∙ fits-end (at .before .before .args .shape .now) (at .loop .i) (omega arith))
 
 pub files-fit-spec : {M : Type 1} → statement M
-files-fit-spec =
-    tie.close
-    (tie.spec
-    Inv-loop
-    μ-loop
-    loop-holds
-    mul-file-fits
-    shared-slice-read-file-fits
-    mul-file-fits-2
-    add-file-fits
-    shared-slice-read-file-fits-2
-    file-fits-requires
-    returns
-    add-i
-    loop-less
-    loop-again
-    returns-2)
+files-fit-spec = tie.close (tie.spec Inv-loop μ-loop loop-holds (λ c. search needs) (λ c. search needs)
+    (λ c. search needs) (λ c. search needs) (λ c. search needs) (λ c κs. search needs) returns (λ c. search needs)
+    (λ c. search needs) loop-again returns-2)

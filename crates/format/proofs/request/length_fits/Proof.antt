@@ -1,6 +1,6 @@
 -- `length_fits` meets its contract: the two tests of `lengthFits`, in order.
 use borrow.Author.Tests.{eq-eqb, ne-eqb}
-use Rattle.format.specs.Requests.{lengthFits}
+use Rattle.volume.specs.Format.{lengthFits}
 use Rattle.format.proofs.request.length_fits.Statement.{statement}
 use Rattle.format.proofs.request.length_fits.Tie as tie
 

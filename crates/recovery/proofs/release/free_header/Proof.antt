@@ -5,18 +5,6 @@ use Rattle.recovery.proofs.HeaderLaws.{header-read, record-read, count-
 use Rattle.recovery.proofs.release.free_header.Statement.{statement}
 use Rattle.recovery.proofs.release.free_header.Tie as tie
 
-header-requires : tie.Need-header-requires
-header-requires c κs = search needs
-
-load-requires : tie.Need-load-requires
-load-requires c κs = search needs
-
-set-holder-requires : tie.Need-set-holder-requires
-set-holder-requires c κs = search needs
-
-record-requires : tie.Need-record-requires
-record-requires c κs = search needs
-
 redo-map-requires : tie.Need-redo-map-requires
 redo-map-requires c κs =
     let h = c .before .before .before in
@@ -53,13 +41,5 @@ returns-2 c =
     (rw (c .if1 .left) e, h .set-holder .ensures .1)
 
 pub free-header-spec : {M : Type 1} → statement M
-free-header-spec =
-    tie.close
-    (tie.spec
-    header-requires
-    load-requires
-    set-holder-requires
-    record-requires
-    redo-map-requires
-    returns
-    returns-2)
+free-header-spec = tie.close (tie.spec (λ c κs. search needs) (λ c κs. search needs) (λ c κs. search needs)
+    (λ c κs. search needs) redo-map-requires returns returns-2)

@@ -1,74 +1,48 @@
--- `release_one` meets its contract: one store, if the client holds the file and the budget has one.
+-- `release_one` meets its contract: a header is put, if the client holds the file.
 use mathlib.Core.Path.{sym, _∙_}
 use borrow.Author.Needs.{needs}
 use Rattle.volume.specs.Volumes.{view}
-use Rattle.recovery.specs.Work.{freed}
-use Rattle.recovery.proofs.MadeLaws.{made-none, made-short, made-one}
+use Rattle.stores.proofs.MadeLaws.{made-none, made-crashed}
 use Rattle.recovery.proofs.ReleaseLaws.{release-none, release-held}
 use Rattle.recovery.proofs.release.release_one.Statement.{statement}
 use Rattle.recovery.proofs.release.release_one.Tie as tie
 
-holder-requires : tie.Need-holder-requires
-holder-requires c κs = search needs
-
-same-length : tie.Need-same-length
-same-length c = search needs
-
 returns : tie.Need-returns
-returns c =
-    let h = c .before in
-    let s = h .before .before .before in
-    let a = s .args in
-    rw (release-none (a .redo) (view (a .v .now)) (a .k) (a .f) (λ e. c .if1 .taken (h .holder .ensures ∙ e))) made-none
+returns c = made-crashed (c .if1 .taken)
 
-same-length-2 : tie.Need-same-length-2
-same-length-2 c = search needs
+holder-requires : tie.Need-holder-requires
+holder-requires c κs =
+    let e = c .before in
+    let p = e .before .before .pre (e .if1 .left) in
+    (p .0, p .2)
 
 returns-2 : tie.Need-returns-2
 returns-2 c =
-    let h = c .before .before in
-    let s = h .before .before .before in
-    let a = s .args in
-    rw (release-held (a .redo) (view (a .v .now)) (a .k) (a .f) (sym (h .holder .ensures) ∙ c .before .if1 .left)) (made-short _ (c .if2 .taken))
-
-zeros-requires : tie.Need-zeros-requires
-zeros-requires c κs = search needs
+    let h = c .before in
+    let a = h .before .before .before .before .args in
+    rw (release-none (a .redo) (view (a .v .now)) (a .k) (a .f) (λ x. c .if2 .taken (h .holder .ensures ∙ x))) made-none
 
 free-header-requires : tie.Need-free-header-requires
-free-header-requires c κs = search needs
+free-header-requires c κs =
+    let e = c .before .before .before .before .before .before in
+    search (needs, e .before .before .pre (e .if1 .left))
 
-slice-aggregate-store-header : tie.Need-slice-aggregate-store-header
-slice-aggregate-store-header c = search needs
-
-store-header-requires : tie.Need-store-header-requires
-store-header-requires c κs = search needs
-
-same-length-3 : tie.Need-same-length-3
-same-length-3 c = search needs
+put-header-requires : tie.Need-put-header-requires
+put-header-requires c κs =
+    let b = c .before .before in
+    let e = b .before .before .before .before .before .before .before in
+    let p = e .before .before .pre (e .if1 .left) in
+    (λ _. (p .0, p .2), b .free-header .ensures .1)
 
 returns-3 : tie.Need-returns-3
 returns-3 c =
-    let st = c .before .before in
-    let fh = st .before .before .before in
-    let n = fh .before .before .before .before in
-    let h = n .before .before in
-    let s = h .before .before .before in
-    let a = s .args in
-    rw (release-held (a .redo) (view (a .v .now)) (a .k) (a .f) (sym (h .holder .ensures) ∙ n .before .if1 .left))
-    (made-one _ (n .if2 .left) (st .store-header .ensures (freed (a .redo) (view (a .v .now)) (a .k) (a .f)) (fh .free-header .ensures .0)))
+    let p = c .before .before in
+    let b = p .before .before .before in
+    let n = b .before .before .before .before in
+    let a = n .before .before .before .before .before .args in
+    rw (release-held (a .redo) (view (a .v .now)) (a .k) (a .f) (sym (n .before .holder .ensures) ∙ n .if2 .left))
+    (p .put-header .ensures _ (b .free-header .ensures .0))
 
 pub release-one-spec : {M : Type 1} → statement M
-release-one-spec =
-    tie.close
-    (tie.spec
-    holder-requires
-    same-length
-    returns
-    same-length-2
-    returns-2
-    zeros-requires
-    free-header-requires
-    slice-aggregate-store-header
-    store-header-requires
-    same-length-3
-    returns-3)
+release-one-spec = tie.close (tie.spec returns holder-requires (λ c. search needs) returns-2 (λ c κs. search needs)
+    free-header-requires (λ c. search needs) put-header-requires (λ c. search needs) returns-3)

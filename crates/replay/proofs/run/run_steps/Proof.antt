@@ -23,9 +23,6 @@ Inv-loop v₀ script out₀ last₀ to₀ at₀ n₀ v out last to at n =
 abbrev μ-loop : tie.MeasureT-loop
 μ-loop v₀ script out₀ last₀ to₀ at₀ n₀ v out last to at n = length script - at
 
-step-length-requires : tie.Need-step-length-requires Inv-loop μ-loop
-step-length-requires c κs = search needs
-
 loop-holds : tie.Need-loop-holds Inv-loop μ-loop
 loop-holds c =
     let s = c .before .before .before .before in
@@ -38,15 +35,6 @@ step-requires c κs =
     let i = l .loop in
     let w = whole-step (drop (i .at) (s .args .script .now)) (i .n) (i .inv .1) (omega arith) in
     (i .inv .1, omega arith, i .inv .0, rw (i .inv .4) (room-now (s .args .script .now) (i .at) (i .n) (i .to) (length (s .args .out .now)) w (i .inv .3)))
-
-add-at : tie.Need-add-at Inv-loop μ-loop
-add-at c = search needs
-
-step-length-requires-2 : tie.Need-step-length-requires-2 Inv-loop μ-loop
-step-length-requires-2 c κs = search needs
-
-loop-less : tie.Need-loop-less Inv-loop μ-loop
-loop-less c = search needs
 
 loop-again : tie.Need-loop-again Inv-loop μ-loop
 loop-again c =
@@ -64,12 +52,6 @@ loop-again c =
       search needs,
     )
 
-same-length : tie.Need-same-length Inv-loop μ-loop
-same-length c = search needs
-
-same-length-2 : tie.Need-same-length-2 Inv-loop μ-loop
-same-length-2 c = search needs
-
 returns : tie.Need-returns Inv-loop μ-loop
 returns c =
     let l = c .before in
@@ -78,18 +60,5 @@ returns c =
     λ m. going-end (i .inv .2 m) (no-step (drop (i .at) (s .args .script .now)) (i .n) (i .inv .1) (omega arith)) (s .pre)
 
 pub run-steps-spec : {M : Type 1} → statement M
-run-steps-spec =
-    tie.close
-    (tie.spec
-    Inv-loop
-    μ-loop
-    step-length-requires
-    loop-holds
-    step-requires
-    add-at
-    step-length-requires-2
-    loop-less
-    loop-again
-    same-length
-    same-length-2
-    returns)
+run-steps-spec = tie.close (tie.spec Inv-loop μ-loop (λ c κs. search needs) loop-holds step-requires (λ c. search needs)
+    (λ c κs. search needs) (λ c. search needs) loop-again (λ c. search needs) (λ c. search needs) returns)

@@ -15,12 +15,6 @@ command-at-requires c κs =
     let w = whole-step (drop (s .args .at) l) (s .args .n) (s .pre .0) (s .pre .1) in
     omega (arith, w .head, length-drop (s .args .at) l)
 
-add-from : tie.Need-add-from
-add-from c = search needs
-
-add-end : tie.Need-add-end
-add-end c = search needs
-
 sub-perform : tie.Need-sub-perform
 sub-perform c =
     let s = c .before .before .before .before .before in
@@ -33,12 +27,6 @@ part-perform-start c =
     let w = whole-step (drop (s .args .at) (s .args .script .now)) (s .args .n) (s .pre .0) (s .pre .1) in
     omega (arith, w .size)
 
-part-perform-end : tie.Need-part-perform-end
-part-perform-end c = search needs
-
-perform-requires : tie.Need-perform-requires
-perform-requires c κs = search needs
-
 put-entry-requires : tie.Need-put-entry-requires
 put-entry-requires c κs =
     let p = c .before .before .before .before .before in
@@ -46,12 +34,6 @@ put-entry-requires c κs =
     let s = m .before .before .before .before in
     let w = whole-step (drop (s .args .at) (s .args .script .now)) (s .args .n) (s .pre .0) (s .pre .1) in
     (entry-room (s .args .script .now) (s .args .at) (s .args .n) w (m .command-at .ensures) refl (p .perform .ensures) (s .args .to) (length (s .args .out .now)) (s .pre .3), entry-answer (s .args .script .now) (s .args .at) (s .args .n) w (m .command-at .ensures) refl (p .perform .ensures))
-
-same-length : tie.Need-same-length
-same-length c = search needs
-
-same-length-2 : tie.Need-same-length-2
-same-length-2 c = search needs
 
 returns : tie.Need-returns
 returns c =
@@ -63,17 +45,6 @@ returns c =
     is-stepped (s .args .script .now) (s .args .at) (s .args .n) w (m .command-at .ensures) refl (p .perform .ensures) (e .put-entry .ensures)
 
 pub step-spec : {M : Type 1} → statement M
-step-spec =
-    tie.close
-    (tie.spec
-    command-at-requires
-    add-from
-    add-end
-    sub-perform
-    part-perform-start
-    part-perform-end
-    perform-requires
-    put-entry-requires
-    same-length
-    same-length-2
-    returns)
+step-spec = tie.close (tie.spec command-at-requires (λ c. search needs) (λ c. search needs) sub-perform
+    part-perform-start (λ c. search needs) (λ c κs. search needs) put-entry-requires (λ c. search needs)
+    (λ c. search needs) returns)

@@ -22,9 +22,6 @@ Inv-loop script room left₀ at₀ n₀ left at n =
 abbrev μ-loop : tie.MeasureT-loop
 μ-loop script room left₀ at₀ n₀ left at n = length script - at
 
-step-length-requires : tie.Need-step-length-requires Inv-loop μ-loop
-step-length-requires c κs = search needs
-
 loop-holds : tie.Need-loop-holds Inv-loop μ-loop
 unfolding hasRoom
 loop-holds c = (c .step-length .ensures .1, c .step-length .ensures .0, refl)
@@ -35,12 +32,6 @@ shared-slice-read-action c =
     let w = whole-step (drop (l .loop .at) (l .before .before .before .args .script .now)) (l .loop .n) (l .loop .inv .1) (omega arith) in
     omega (arith, w .head, length-drop (l .loop .at) (l .before .before .before .args .script .now))
 
-action-requires : tie.Need-action-requires Inv-loop μ-loop
-action-requires c κs = search needs
-
-entry-length-requires : tie.Need-entry-length-requires Inv-loop μ-loop
-entry-length-requires c κs = search needs
-
 returns : tie.Need-returns Inv-loop μ-loop
 returns c =
     let e = c .before in
@@ -48,15 +39,6 @@ returns c =
     let s = l .before .before .before .args .script .now in
     let w = whole-step (drop (l .loop .at) s) (l .loop .n) (l .loop .inv .1) (omega arith) in
     sym (l .loop .inv .2 ∙ room-over s (l .loop .at) (l .loop .n) (l .loop .left) (e .entry-length .result) w (entry-is (l .loop .at) s (e .before .action .ensures) (e .entry-length .ensures)) (omega arith))
-
-add-at : tie.Need-add-at Inv-loop μ-loop
-add-at c = search needs
-
-step-length-requires-2 : tie.Need-step-length-requires-2 Inv-loop μ-loop
-step-length-requires-2 c κs = search needs
-
-loop-less : tie.Need-loop-less Inv-loop μ-loop
-loop-less c = search needs
 
 loop-again : tie.Need-loop-again Inv-loop μ-loop
 loop-again c =
@@ -73,19 +55,6 @@ returns-2 c =
     sym (l .loop .inv .2 ∙ room-none s (l .loop .at) (l .loop .left) (no-step (drop (l .loop .at) s) (l .loop .n) (l .loop .inv .1) (omega arith)))
 
 pub has-room-spec : {M : Type 1} → statement M
-has-room-spec =
-    tie.close
-    (tie.spec
-    Inv-loop
-    μ-loop
-    step-length-requires
-    loop-holds
-    shared-slice-read-action
-    action-requires
-    entry-length-requires
-    returns
-    add-at
-    step-length-requires-2
-    loop-less
-    loop-again
-    returns-2)
+has-room-spec = tie.close (tie.spec Inv-loop μ-loop (λ c κs. search needs) loop-holds shared-slice-read-action
+    (λ c κs. search needs) (λ c κs. search needs) returns (λ c. search needs) (λ c κs. search needs) (λ c. search needs)
+    loop-again returns-2)

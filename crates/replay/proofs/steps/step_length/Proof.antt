@@ -10,9 +10,6 @@ use Rattle.replay.proofs.ScriptLaws.{short-none, cut-none, fits-whole, 
 use Rattle.replay.proofs.steps.step_length.Statement.{statement}
 use Rattle.replay.proofs.steps.step_length.Tie as tie
 
-sub-left : tie.Need-sub-left
-sub-left c = search needs
-
 returns : tie.Need-returns
 unfolding stepLength
 returns c =
@@ -21,33 +18,6 @@ returns c =
     let at = s .args .at in
     (rw (short-none (drop at l) (omega (arith, length-drop at l))), omega (arith, s .pre))
 
-add-size : tie.Need-add-size
-add-size c = search needs
-
-shared-slice-read-size : tie.Need-shared-slice-read-size
-shared-slice-read-size c = search needs
-
-size-requires : tie.Need-size-requires
-size-requires c κs = search needs
-
-add-size-2 : tie.Need-add-size-2
-add-size-2 c = search needs
-
-shared-slice-read-size-2 : tie.Need-shared-slice-read-size-2
-shared-slice-read-size-2 c = search needs
-
-size-requires-2 : tie.Need-size-requires-2
-size-requires-2 c κs = search needs
-
-mul-n : tie.Need-mul-n
-mul-n c = search needs
-
-add-n : tie.Need-add-n
-add-n c = search needs
-
-add-n-2 : tie.Need-add-n-2
-add-n-2 c = search needs
-
 returns-2 : tie.Need-returns-2
 unfolding stepLength
 returns-2 c =
@@ -55,8 +25,8 @@ returns-2 c =
     let s = z .before .before .before .before .before .before in
     let l = s .args .script .now in
     let at = s .args .at in
-    let e : stepSize (drop at l) ≡ 8 + (z .before .before .size .result + 256 * z .size2 .result) =
-    rw (byte-at l at 6, byte-at l at 7, z .before .before .size .ensures .0, z .size2 .ensures .0) in
+    let e : stepSize (drop at l) ≡ 8 + (z .before .before .wide .result + 256 * z .wide2 .result) =
+    rw (byte-at l at 6, byte-at l at 7, z .before .before .wide .ensures .0, z .wide2 .ensures .0) in
     (rw (cut-none (drop at l) (omega (arith, length-drop at l)) (omega (arith, length-drop at l, e))), omega (arith, s .pre))
 
 returns-3 : tie.Need-returns-3
@@ -66,24 +36,11 @@ returns-3 c =
     let s = z .before .before .before .before .before .before in
     let l = s .args .script .now in
     let at = s .args .at in
-    let e : stepSize (drop at l) ≡ 8 + (z .before .before .size .result + 256 * z .size2 .result) =
-    rw (byte-at l at 6, byte-at l at 7, z .before .before .size .ensures .0, z .size2 .ensures .0) in
+    let e : stepSize (drop at l) ≡ 8 + (z .before .before .wide .result + 256 * z .wide2 .result) =
+    rw (byte-at l at 6, byte-at l at 7, z .before .before .wide .ensures .0, z .wide2 .ensures .0) in
     (rw (fits-whole (drop at l) (omega (arith, length-drop at l)) (omega (arith, length-drop at l, e)), e), omega arith)
 
 pub step-length-spec : {M : Type 1} → statement M
-step-length-spec =
-    tie.close
-    (tie.spec
-    sub-left
-    returns
-    add-size
-    shared-slice-read-size
-    size-requires
-    add-size-2
-    shared-slice-read-size-2
-    size-requires-2
-    mul-n
-    add-n
-    add-n-2
-    returns-2
-    returns-3)
+step-length-spec = tie.close (tie.spec (λ c. search needs) returns (λ c. search needs) (λ c. search needs)
+    (λ c κs. search needs) (λ c. search needs) (λ c. search needs) (λ c κs. search needs) (λ c. search needs)
+    (λ c. search needs) (λ c. search needs) returns-2 returns-3)

@@ -1,5 +1,5 @@
 -- `arguments` meets its contract: those counted and those of what is left make the whole.
-use mathlib.Core.Path.{_≡_, refl, sym, _∙_}
+use mathlib.Core.Path.{_≡_}
 use Prim.Native.Nat.{_+_, _-_, _≤_}
 use native.Mathlib.Omega.{arith}
 use borrow.Author.Needs.{needs}
@@ -18,21 +18,6 @@ abbrev μ-loop : tie.MeasureT-loop
 loop-holds : tie.Need-loop-holds Inv-loop μ-loop
 loop-holds c = (omega arith, omega arith, omega arith)
 
-shared-slice-read-space : tie.Need-shared-slice-read-space Inv-loop μ-loop
-shared-slice-read-space c = search needs
-
-space-requires : tie.Need-space-requires Inv-loop μ-loop
-space-requires c κs = search needs
-
-add-n : tie.Need-add-n Inv-loop μ-loop
-add-n c = search needs
-
-add-i : tie.Need-add-i Inv-loop μ-loop
-add-i c = search needs
-
-loop-less : tie.Need-loop-less Inv-loop μ-loop
-loop-less c = search needs
-
 loop-again : tie.Need-loop-again Inv-loop μ-loop
 loop-again c =
     let l = c .before .before .before in
@@ -44,16 +29,5 @@ returns c =
     arguments-end (l .before .before .args .line .now) (l .loop .i) (omega arith) _ (l .loop .n) (l .loop .inv .2)
 
 pub arguments-spec : {M : Type 1} → statement M
-arguments-spec =
-    tie.close
-    (tie.spec
-    Inv-loop
-    μ-loop
-    loop-holds
-    shared-slice-read-space
-    space-requires
-    add-n
-    add-i
-    loop-less
-    loop-again
-    returns)
+arguments-spec = tie.close (tie.spec Inv-loop μ-loop loop-holds (λ c. search needs) (λ c κs. search needs)
+    (λ c. search needs) (λ c. search needs) (λ c. search needs) loop-again returns)

@@ -18,9 +18,6 @@ abbrev μ-loop : tie.MeasureT-loop
 loop-holds : tie.Need-loop-holds Inv-loop μ-loop
 loop-holds c = (c .before .pre, omega arith, refl)
 
-shared-slice-read-c : tie.Need-shared-slice-read-c Inv-loop μ-loop
-shared-slice-read-c c = search needs
-
 returns : tie.Need-returns Inv-loop μ-loop
 returns c =
     let l = c .before .before .before in
@@ -36,15 +33,6 @@ returns-3 c =
     let l = c .before .before .before .before .before in
     sym (l .loop .inv .2 ∙ digits-high (l .before .before .args .line .now) (l .loop .i) (omega arith) (l .loop .n) (c .before .before .if1 .left) (c .if3 .taken))
 
-with-digit-requires : tie.Need-with-digit-requires Inv-loop μ-loop
-with-digit-requires c κs = search needs
-
-add-i : tie.Need-add-i Inv-loop μ-loop
-add-i c = search needs
-
-loop-less : tie.Need-loop-less Inv-loop μ-loop
-loop-less c = search needs
-
 loop-again : tie.Need-loop-again Inv-loop μ-loop
 loop-again c =
     let e = c .before in
@@ -57,18 +45,5 @@ returns-4 c =
     sym (l .loop .inv .2 ∙ digits-done (l .before .before .args .line .now) (l .loop .i) (omega arith) (l .loop .n))
 
 pub digits-spec : {M : Type 1} → statement M
-digits-spec =
-    tie.close
-    (tie.spec
-    Inv-loop
-    μ-loop
-    loop-holds
-    shared-slice-read-c
-    returns
-    returns-2
-    returns-3
-    with-digit-requires
-    add-i
-    loop-less
-    loop-again
-    returns-4)
+digits-spec = tie.close (tie.spec Inv-loop μ-loop loop-holds (λ c. search needs) returns returns-2 returns-3
+    (λ c κs. search needs) (λ c. search needs) (λ c. search needs) loop-again returns-4)

@@ -1,6 +1,5 @@
 -- `space` meets its contract: one test.
 use native.Mathlib.Omega.{arith}
-use borrow.Author.Needs.{needs}
 use borrow.Author.Tests.{eq-eqb, ne-eqb}
 use Rattle.script.proofs.fields.space.Statement.{statement}
 use Rattle.script.proofs.fields.space.Tie as tie

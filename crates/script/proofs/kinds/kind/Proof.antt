@@ -1,61 +1,50 @@
--- `kind` meets its contract: a line that has its word's form is what its word says.
-use mathlib.Core.Path.{sym, _∙_}
+-- `kind` meets its contract: what is left of the table decides.
+use mathlib.Core.Path.{_≡_, refl, sym, _∙_}
+use Prim.Native.Nat.{_-_, _≤_}
+use native.Mathlib.Omega.{arith}
 use borrow.Author.Needs.{needs}
-use borrow.Author.Tests.{not-true, not-false}
-use Rattle.script.proofs.KindLaws.{too-few, too-many, few, too-large, has-form}
+use lib.ListN.{length, drop}
+use Rattle.script.specs.Kinds.{rows, kindIn, kindOf}
+use Rattle.script.proofs.KindLaws.{kind-here, kind-later, kind-none}
 use Rattle.script.proofs.kinds.kind.Statement.{statement}
 use Rattle.script.proofs.kinds.kind.Tie as tie
 
-word-kind-requires : tie.Need-word-kind-requires
-word-kind-requires c κs = search needs
+abbrev Inv-loop : tie.InvT-loop
+Inv-loop line i₀ i = (i ≤ length rows) × (kindOf line ≡ kindIn (drop i rows) line)
 
-form-requires : tie.Need-form-requires
-form-requires c κs = search needs
+abbrev μ-loop : tie.MeasureT-loop
+μ-loop line i₀ i = length rows - i
 
-arguments-requires : tie.Need-arguments-requires
-arguments-requires c κs = search needs
+loop-holds : tie.Need-loop-holds Inv-loop μ-loop
+loop-holds c = (omega arith, refl)
 
-returns : tie.Need-returns
+row-at-requires : tie.Need-row-at-requires Inv-loop μ-loop
+unfolding rows
+row-at-requires c κs = search needs
+
+returns : tie.Need-returns Inv-loop μ-loop
 returns c =
-    let a = c .before .before in
-    let f = a .before in
-    too-few (f .before .before .before .args .line .now) (f .before .word-kind .result) (f .form .result) (a .arguments .result) (f .before .word-kind .ensures) (f .form .ensures) (a .arguments .ensures) (c .if1 .taken)
+    let r = c .before .before in
+    let l = r .before .before in
+    sym (kind-here rows _ _ (l .loop .i) (l .loop .inv .1) (r .row-at .result) (r .row-at .ensures) (sym (c .before .fits2 .ensures) ∙ c .if1 .taken))
 
-returns-2 : tie.Need-returns-2
+loop-less : tie.Need-loop-less Inv-loop μ-loop
+unfolding rows
+loop-less c = search needs
+
+loop-again : tie.Need-loop-again Inv-loop μ-loop
+unfolding rows
+loop-again c =
+    let r = c .before .before in
+    let l = r .before .before in
+    (omega arith, kind-later rows _ _ (l .loop .i) (l .loop .inv .1) (r .row-at .result) (r .row-at .ensures) (sym (c .before .fits2 .ensures) ∙ c .if1 .left))
+
+returns-2 : tie.Need-returns-2 Inv-loop μ-loop
+unfolding rows
 returns-2 c =
-    let a = c .before .before .before .before in
-    let f = a .before in
-    too-many (f .before .before .before .args .line .now) (f .before .word-kind .result) (f .form .result) (a .arguments .result) (f .before .word-kind .ensures) (f .form .ensures) (a .arguments .ensures) (c .if2 .taken)
-
-arguments-fit-requires : tie.Need-arguments-fit-requires
-arguments-fit-requires c κs =
-    let a = c .before .before .before .before in
-    let f = a .before in
-    few (f .before .before .before .args .line .now) (f .before .word-kind .result) (f .form .result) (a .arguments .result) (f .before .word-kind .ensures) (f .form .ensures) (a .arguments .ensures) (c .if2 .left)
-
-returns-3 : tie.Need-returns-3
-returns-3 c =
-    let e = c .before .before in
-    let a = e .before .before .before .before in
-    let f = a .before in
-    too-large (f .before .before .before .args .line .now) (f .before .word-kind .result) (f .form .result) (a .arguments .result) (f .before .word-kind .ensures) (f .form .ensures) (a .arguments .ensures) (e .before .before .if1 .left) (e .if2 .left) (sym (c .before .arguments-fit .ensures) ∙ not-true _ (c .if3 .taken))
-
-returns-4 : tie.Need-returns-4
-returns-4 c =
-    let e = c .before .before in
-    let a = e .before .before .before .before in
-    let f = a .before in
-    has-form (f .before .before .before .args .line .now) (f .before .word-kind .result) (f .form .result) (a .arguments .result) (f .before .word-kind .ensures) (f .form .ensures) (a .arguments .ensures) (e .before .before .if1 .left) (e .if2 .left) (sym (c .before .arguments-fit .ensures) ∙ not-false _ (c .if3 .left))
+    let l = c .before in
+    sym (kind-none rows _ _ (l .loop .i) (l .loop .inv .1) (omega arith))
 
 pub kind-spec : {M : Type 1} → statement M
-kind-spec =
-    tie.close
-    (tie.spec
-    word-kind-requires
-    form-requires
-    arguments-requires
-    returns
-    returns-2
-    arguments-fit-requires
-    returns-3
-    returns-4)
+kind-spec = tie.close (tie.spec Inv-loop μ-loop loop-holds row-at-requires (λ c κs. search needs) returns
+    (λ c. search needs) loop-less loop-again returns-2)

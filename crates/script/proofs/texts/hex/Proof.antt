@@ -11,15 +11,6 @@ returns c =
     let s = c .before .before .before in
     (no-hex (s .args .bytes .now) (s .args .out .now) (c .if1 .taken), (omega arith, refl))
 
-put-hex-requires : tie.Need-put-hex-requires
-put-hex-requires c κs = search needs
-
-mul-result : tie.Need-mul-result
-mul-result c = search needs
-
-same-length : tie.Need-same-length
-same-length c = search needs
-
 returns-2 : tie.Need-returns-2
 returns-2 c =
     let p = c .before .before in
@@ -30,4 +21,4 @@ returns-2 c =
     )
 
 pub hex-spec : {M : Type 1} → statement M
-hex-spec = tie.close (tie.spec returns put-hex-requires mul-result same-length returns-2)
+hex-spec = tie.close (tie.spec returns (λ c κs. search needs) (λ c. search needs) (λ c. search needs) returns-2)

@@ -21,14 +21,8 @@ Inv-loop buf₀ rec f n i₀ buf i =
 abbrev μ-loop : tie.MeasureT-loop
 μ-loop buf₀ rec f n i₀ buf i = n - i
 
-record-count-requires : tie.Need-record-count-requires Inv-loop μ-loop
-record-count-requires c κs = search needs
-
-size-requires : tie.Need-size-requires Inv-loop μ-loop
-size-requires c κs = search needs
-
 loop-holds : tie.Need-loop-holds Inv-loop μ-loop
-loop-holds c = (omega arith, c .size .ensures .0 ∙ c .before .record-count .ensures, refl, c .before .before .before .pre .0)
+loop-holds c = (omega arith, c .wide .ensures .0 ∙ c .before .record-count .ensures, refl, c .before .before .before .pre .0)
 
 apply-entry-requires : tie.Need-apply-entry-requires Inv-loop μ-loop
 apply-entry-requires c κs =
@@ -36,9 +30,6 @@ apply-entry-requires c κs =
     let s = at .before .before .before .before in
     let low : at .loop .i < countIn (s .args .rec .now) = omega arith in
     (at .loop .inv .3, s .pre .1, omega arith, entry-page (s .args .rec .now) 248 (at .loop .i) low (s .pre .3))
-
-add-i : tie.Need-add-i Inv-loop μ-loop
-add-i c = search needs
 
 loop-less : tie.Need-loop-less Inv-loop μ-loop
 loop-less c = omega arith
@@ -61,16 +52,5 @@ returns c =
     ((λ x h q low. done ∙ rw q (header-redone x (a .f) es h (length (h .map)) refl low)), at .loop .inv .3)
 
 pub redo-map-spec : {M : Type 1} → statement M
-redo-map-spec =
-    tie.close
-    (tie.spec
-    Inv-loop
-    μ-loop
-    record-count-requires
-    size-requires
-    loop-holds
-    apply-entry-requires
-    add-i
-    loop-less
-    loop-again
-    returns)
+redo-map-spec = tie.close (tie.spec Inv-loop μ-loop (λ c κs. search needs) (λ c κs. search needs) loop-holds
+    apply-entry-requires (λ c. search needs) loop-less loop-again returns)

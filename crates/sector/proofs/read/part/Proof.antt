@@ -6,25 +6,11 @@ use Rattle.sector.proofs.SectorLaws.{sector-length}
 use Rattle.sector.proofs.read.part.Statement.{statement}
 use Rattle.sector.proofs.read.part.Tie as tie
 
-mul-at : tie.Need-mul-at
-mul-at c = search needs
-
-add-e : tie.Need-add-e
-add-e c = search needs
-
-sub-result : tie.Need-sub-result
-sub-result c = search needs
-
-part-result-start : tie.Need-part-result-start
-part-result-start c = search needs
-
-part-result-end : tie.Need-part-result-end
-part-result-end c = search needs
-
 returns : tie.Need-returns
 returns c =
     let s = c .before in
     rw (part-is (s .args .v .now) (s .args .s)) (refl, sector-length (s .args .v .now) (s .args .s) (s .pre .0))
 
 pub part-spec : {M : Type 1} → statement M
-part-spec = tie.close (tie.spec mul-at add-e sub-result part-result-start part-result-end returns)
+part-spec = tie.close (tie.spec (λ c. search needs) (λ c. search needs) (λ c. search needs) (λ c. search needs)
+    (λ c. search needs) returns)

@@ -4,27 +4,6 @@ use Rattle.sector.proofs.PartLaws.{lent-part}
 use Rattle.sector.proofs.write.store.Statement.{statement}
 use Rattle.sector.proofs.write.store.Tie as tie
 
-mul-at : tie.Need-mul-at
-mul-at c = search needs
-
-add-e : tie.Need-add-e
-add-e c = search needs
-
-sub-replace : tie.Need-sub-replace
-sub-replace c = search needs
-
-part-replace-start : tie.Need-part-replace-start
-part-replace-start c = search needs
-
-part-replace-end : tie.Need-part-replace-end
-part-replace-end c = search needs
-
-replace-requires : tie.Need-replace-requires
-replace-requires c κs = search needs
-
-same-length : tie.Need-same-length
-same-length c = search needs
-
 returns : tie.Need-returns
 returns c =
     let r = c .before .before in
@@ -32,14 +11,5 @@ returns c =
     lent-part (a .v .now) (a .s) (r .replace .last .0) (a .src .now) (r .replace .ensures)
 
 pub store-spec : {M : Type 1} → statement M
-store-spec =
-    tie.close
-    (tie.spec
-    mul-at
-    add-e
-    sub-replace
-    part-replace-start
-    part-replace-end
-    replace-requires
-    same-length
-    returns)
+store-spec = tie.close (tie.spec (λ c. search needs) (λ c. search needs) (λ c. search needs) (λ c. search needs)
+    (λ c. search needs) (λ c κs. search needs) (λ c. search needs) returns)

@@ -1,54 +1,18 @@
 -- `decide` meets its contract: the record as read, with state 2.
 use mathlib.Core.Path.{_∙_}
 use borrow.Author.Needs.{needs}
-use Rattle.recovery.proofs.MadeLaws.{made-short, made-one}
 use Rattle.transaction.proofs.commit.decide.Statement.{statement}
 use Rattle.transaction.proofs.commit.decide.Tie as tie
 
 returns : tie.Need-returns
-returns c = made-short _ (c .if1 .taken)
-
-zeros-requires : tie.Need-zeros-requires
-zeros-requires c κs = search needs
-
-record-requires : tie.Need-record-requires
-record-requires c κs = search needs
-
-load-requires : tie.Need-load-requires
-load-requires c κs = search needs
-
-set-state-requires : tie.Need-set-state-requires
-set-state-requires c κs = search needs
-
-slice-aggregate-store-record : tie.Need-slice-aggregate-store-record
-slice-aggregate-store-record c = search needs
-
-store-record-requires : tie.Need-store-record-requires
-store-record-requires c κs = search needs
-
-same-length : tie.Need-same-length
-same-length c = search needs
-
-returns-2 : tie.Need-returns-2
-returns-2 c =
-    let st = c .before .before in
-    let e = st .before .before .before in
+returns c =
+    let p = c .before .before in
+    let e = p .before .before .before in
     let l = e .before .before in
-    let n = l .before .before .before .before .before in
-    let s = n .before .before in
+    let s = l .before .before .before .before .before .before in
     let read = l .load .ensures .0 ∙ l .before .record .ensures .0 ∙ s .pre .0 .record-bytes (s .args .k) (s .pre .1 .low) (s .pre .1 .high) in
-    made-one _ (n .if1 .left) (st .store-record .ensures _ (e .set-state .ensures .0 _ read))
+    p .put-record .ensures _ (e .set-state .ensures .0 _ read)
 
 pub decide-spec : {M : Type 1} → statement M
-decide-spec =
-    tie.close
-    (tie.spec
-    returns
-    zeros-requires
-    record-requires
-    load-requires
-    set-state-requires
-    slice-aggregate-store-record
-    store-record-requires
-    same-length
-    returns-2)
+decide-spec = tie.close (tie.spec (λ c κs. search needs) (λ c κs. search needs) (λ c κs. search needs)
+    (λ c κs. search needs) (λ c. search needs) (λ c κs. search needs) (λ c. search needs) returns)

@@ -6,16 +6,10 @@ use Rattle.volume.proofs.ReadLaws.{clients-in}
 use Rattle.volume.proofs.read.clients.Statement.{statement}
 use Rattle.volume.proofs.read.clients.Tie as tie
 
-table-requires : tie.Need-table-requires
-table-requires c κs = search needs
-
-table-clients-requires : tie.Need-table-clients-requires
-table-clients-requires c κs = search needs
-
 returns : tie.Need-returns
 returns c =
     let s = c .before .before .before in
     c .table-clients .ensures ∙ ap clientsIn (c .before .table .ensures .0) ∙ clients-in (s .args .v .now) (s .pre)
 
 pub clients-spec : {M : Type 1} → statement M
-clients-spec = tie.close (tie.spec table-requires table-clients-requires returns)
+clients-spec = tie.close (tie.spec (λ c κs. search needs) (λ c κs. search needs) returns)

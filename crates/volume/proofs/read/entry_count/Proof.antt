@@ -6,12 +6,6 @@ use Rattle.volume.proofs.ReadLaws.{count-in, few-entries}
 use Rattle.volume.proofs.read.entry_count.Statement.{statement}
 use Rattle.volume.proofs.read.entry_count.Tie as tie
 
-record-requires : tie.Need-record-requires
-record-requires c κs = search needs
-
-record-count-requires : tie.Need-record-count-requires
-record-count-requires c κs = search needs
-
 returns : tie.Need-returns
 returns c =
     let s = c .before .before .before in
@@ -19,4 +13,4 @@ returns c =
     (e, rw e (few-entries (s .args .v .now) (s .pre .0) (s .args .k) (s .pre .1)))
 
 pub entry-count-spec : {M : Type 1} → statement M
-entry-count-spec = tie.close (tie.spec record-requires record-count-requires returns)
+entry-count-spec = tie.close (tie.spec (λ c κs. search needs) (λ c κs. search needs) returns)

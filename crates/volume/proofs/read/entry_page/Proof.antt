@@ -1,7 +1,6 @@
 -- `entry_page` meets its contract: the byte read is the view's field.
 use mathlib.Core.Path.{ap, _∙_}
 use native.Mathlib.Omega.{arith}
-use borrow.Author.Needs.{needs}
 use Rattle.sector.specs.Contents.{Entry}
 use Rattle.volume.proofs.ReadLaws.{few-entries, entry-in}
 use Rattle.volume.proofs.read.entry_page.Statement.{statement}

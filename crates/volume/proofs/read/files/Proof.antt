@@ -6,16 +6,10 @@ use Rattle.volume.proofs.ReadLaws.{files-in}
 use Rattle.volume.proofs.read.files.Statement.{statement}
 use Rattle.volume.proofs.read.files.Tie as tie
 
-table-requires : tie.Need-table-requires
-table-requires c κs = search needs
-
-table-files-requires : tie.Need-table-files-requires
-table-files-requires c κs = search needs
-
 returns : tie.Need-returns
 returns c =
     let s = c .before .before .before in
     c .table-files .ensures ∙ ap fileCountIn (c .before .table .ensures .0) ∙ files-in (s .args .v .now) (s .pre)
 
 pub files-spec : {M : Type 1} → statement M
-files-spec = tie.close (tie.spec table-requires table-files-requires returns)
+files-spec = tie.close (tie.spec (λ c κs. search needs) (λ c κs. search needs) returns)

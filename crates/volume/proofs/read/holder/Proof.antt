@@ -6,16 +6,10 @@ use Rattle.volume.proofs.ReadLaws.{holder-in}
 use Rattle.volume.proofs.read.holder.Statement.{statement}
 use Rattle.volume.proofs.read.holder.Tie as tie
 
-header-requires : tie.Need-header-requires
-header-requires c κs = search needs
-
-header-holder-requires : tie.Need-header-holder-requires
-header-holder-requires c κs = search needs
-
 returns : tie.Need-returns
 returns c =
     let s = c .before .before .before in
     c .header-holder .ensures ∙ ap holderIn (c .before .header .ensures .0) ∙ holder-in (s .args .v .now) (s .pre .0) (s .args .f) (s .pre .1)
 
 pub holder-spec : {M : Type 1} → statement M
-holder-spec = tie.close (tie.spec header-requires header-holder-requires returns)
+holder-spec = tie.close (tie.spec (λ c κs. search needs) (λ c κs. search needs) returns)

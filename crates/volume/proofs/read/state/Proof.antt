@@ -6,16 +6,10 @@ use Rattle.volume.proofs.ReadLaws.{state-in}
 use Rattle.volume.proofs.read.state.Statement.{statement}
 use Rattle.volume.proofs.read.state.Tie as tie
 
-record-requires : tie.Need-record-requires
-record-requires c κs = search needs
-
-record-state-requires : tie.Need-record-state-requires
-record-state-requires c κs = search needs
-
 returns : tie.Need-returns
 returns c =
     let s = c .before .before .before in
     c .record-state .ensures ∙ ap stateIn (c .before .record .ensures .0) ∙ state-in (s .args .v .now) (s .pre .0) (s .args .k) (s .pre .1)
 
 pub state-spec : {M : Type 1} → statement M
-state-spec = tie.close (tie.spec record-requires record-state-requires returns)
+state-spec = tie.close (tie.spec (λ c κs. search needs) (λ c κs. search needs) returns)

@@ -1,0 +1,88 @@
+-- All or none isn't hollow: no call leaves a sound volume unsound, at any budget; and from a sound volume and a session that
+-- fits it, no step is refused by 1 or 2.
+-- That the views on the way are lawful, and that the bytes on the way are encodings, are two laws; together they are
+-- soundness. The session handed back fits, so both hold again before the next step.
+use mathlib.Core.Path.{_≡_, refl}
+use mathlib.Core.Bool.{Bool, true, false}
+use mathlib.Core.List.{List, [], _∷_}
+use Prim.Native.Nat.{ℕ}
+use native.Mathlib.Omega.{arith}
+use lib.ListN.{length}
+use Rattle.interface.specs.declared.Session.{Session}
+use Rattle.interface.specs.Answers.{newSession, QueryAnswer}
+use Rattle.volume.specs.Volumes.{Volume, view}
+use Rattle.volume.specs.Sound.{sound}
+use Rattle.volume.specs.Format.{tableFor, format}
+use Rattle.volume.proofs.SoundLaws.{Fine, fine, fine-sound}
+use Rattle.volume.proofs.FormatLaws.{new-fine, FormatFacts, format-done}
+use Rattle.rules.specs.Sessions.{sessionFits}
+use Rattle.rules.specs.Plans.{Call, Query, readPage, sessionAfter}
+use Rattle.rules.specs.Calls.{After, call, query}
+use Rattle.rules.proofs.SessionLaws.{new-fits}
+use Rattle.rules.proofs.CallLaws.{call-case, call-left, query-case}
+use Rattle.rules.proofs.AllowedLaws.{Later, running-fits}
+use Rattle.atomicity.specs.Runs.{Step, calls, asks, Configuration, started, given, stepped}
+use Rattle.atomicity.specs.NonVacuity.{StaysSound, refusalOf, queryRefusalOf, Accepted, AlwaysAccepted}
+use Rattle.atomicity.proofs.StepLaws.{left-all, left-fine}
+use Rattle.atomicity.proofs.Theorem.{startedAs}
+use Rattle.atomicity.proofs.ReturnLaws.{returned-runs, returned-marks}
+
+-- ------------------------------------------------------------------ every call leaves a sound volume
+pub stays-sound : StaysSound
+stays-sound v s c budget ok = call-left (λ w. sound w ≡ true) v s c budget ok (λ h. fine-sound _ (left-fine v s c h budget))
+
+-- ------------------------------------------------------------------ and a session that fits it
+pub record Steady (v : Volume) (s : Session) : Type 0 where
+  pub volume : Fine v
+  pub session : sessionFits (view v) s ≡ true
+  pub marks : length (s .active) ≡ 4
+
+pub new-steady : {v : Volume} → Fine v → Steady v newSession
+new-steady {v} h = record { volume = h; session = new-fits (view v); marks = refl }
+
+given-steady : {v : Volume} {s : Session} (crash : Bool) → Steady v s → Steady v (given crash s)
+given-steady true h = new-steady (h .volume)
+given-steady false h = h
+
+module _ {v : Volume} {s : Session} (h : Steady v s) where
+  pub call-steady : (c : Call) (budget : ℕ) → let x = call v s c budget in Steady (x .volume) (x .session)
+  call-steady c budget = call-case (λ (x : After). Steady (x .volume) (x .session)) v s c budget (λ n e. h)
+      (λ ok le. record {
+        volume = left-fine v s c ok budget;
+        session = rw (left-all v s c ok budget le)
+            (running-fits _ (sessionAfter s c) (returned-runs (view v) s (h .marks) c (ok .allowed)));
+        marks = returned-marks (view v) s (h .marks) c;
+      })
+      (λ ok lt. new-steady (left-fine v s c ok budget))
+
+  -- Neither refusal 1 nor refusal 2.
+  call-later : (c : Call) (budget : ℕ) → Later (refusalOf (call v s c budget .answer))
+  call-later c budget = call-case (λ (x : After). Later (refusalOf (x .answer))) v s c budget
+      (λ n later. later (h .volume) (h .session)) (λ ok le. (omega arith, omega arith)) (λ ok lt. (omega arith, omega arith))
+
+  query-later : (q : Query) → Later (queryRefusalOf (query v s q))
+  query-later (readPage k f p) = query-case (λ (x : QueryAnswer). Later (queryRefusalOf x)) v s (readPage k f p)
+      (λ n later. later (h .volume) (h .session)) (λ fine w e. (omega arith, omega arith))
+
+-- ------------------------------------------------------------------ every list of steps
+pub accepted : (r : Configuration) (steps : List Step) → Steady (r .volume) (r .session) → Accepted r steps
+unfolding stepped
+accepted r [] h = tt
+accepted r (calls crash c budget ∷ xs) h =
+    let g : Steady (r .volume) (given crash (r .session)) = given-steady crash h in
+    let x = call-later g c budget in
+    (x .0, x .1, accepted (stepped r (calls crash c budget)) xs (call-steady g c budget))
+accepted r (asks crash q ∷ xs) h =
+    let g : Steady (r .volume) (given crash (r .session)) = given-steady crash h in
+    let x = query-later g q in
+    (x .0, x .1, accepted r xs h)
+
+-- From any sound volume with the content that it has.
+pub accepted-from : (v : Volume) (steps : List Step) → sound v ≡ true → Accepted (startedAs v) steps
+accepted-from v steps ok = accepted (startedAs v) steps (new-steady (fine v ok))
+
+-- From a formatted volume.
+pub always-accepted : AlwaysAccepted
+always-accepted v T l d steps =
+    let x : FormatFacts (tableFor (length v) T l) (format v T l .volume) = format-done v T l d in
+    accepted (started (format v T l .volume)) steps (rw (x .volume) (new-steady (new-fine (tableFor (length v) T l) (x .facts))))

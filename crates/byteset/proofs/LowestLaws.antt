@@ -1,0 +1,74 @@
+-- The lowest byte that is not in a set is the lowest clear bit of the first word that has one: the ones below it are the zeros at
+-- the end of the word's complement, which is shown bit by bit.
+use mathlib.Core.Path.{_≡_, refl, sym, ap, _∙_}
+use mathlib.Core.Bool.{Bool, true, false, not}
+use mathlib.Core.List.{List}
+use Prim.Native.Nat.{ℕ, zero, suc, _+_, _*_, _-_, _/_, _%_, _^_, _<_, _≤_, zero-le}
+use native.Mathlib.Nat.{min-zero, pow-suc, not-suc-le-zero, le-of-suc-le-suc}
+use native.Mathlib.Omega.{arith}
+use borrow.Author.Tests.{ne-eqb, ltb-true, ltb-false}
+use lib.Bits.{bitAnd, and-mask, and-step}
+use lib.Count.{trailingZeros, under}
+use lib.Dec.{eqb, ltb}
+use lib.ListN.{getD}
+use Rattle.byteset.specs.Set.{hasByte, hasBit, LowestFailing}
+
+-- ------------------------------------------------------------------ the lowest clear bit
+-- The lowest bit, and those above it in the word's half.
+bit-low : (w : ℕ) → hasBit w 0 ≡ not (eqb (w % 2) 0)
+bit-low w = ap (λ (x : ℕ). not (eqb x 0)) (and-mask w 1)
+
+bit-half : (w j : ℕ) → hasBit w (suc j) ≡ hasBit (w / 2) j
+bit-half w j =
+    let p : 2 ^ suc j ≡ 2 ^ j * 2 = pow-suc 2 j in
+    let half : 2 ^ suc j / 2 ≡ 2 ^ j = omega (arith, p) in
+    let even : 2 ^ suc j % 2 ≡ 0 = omega (arith, p) in
+    let q : bitAnd w (2 ^ suc j) ≡ bitAnd (w / 2) (2 ^ j) * 2 + 0 = and-step w (2 ^ suc j) ∙ rw (half, even, min-zero (w % 2)) in
+    ap (λ (x : ℕ). not (eqb x 0)) q ∙ twice (bitAnd (w / 2) (2 ^ j))
+  where
+    twice : (n : ℕ) → not (eqb (n * 2 + 0) 0) ≡ not (eqb n 0)
+    twice zero = refl
+    twice (suc n) =
+        ap not (ne-eqb (suc n * 2 + 0) 0 (λ (q : suc n * 2 + 0 ≡ 0). omega arith) ∙ sym (ne-eqb (suc n) 0 (λ (q : suc n ≡ 0). omega arith)))
+
+-- The zeros at the end of the complement, bit by bit: b is the word's lowest bit, and t counts in its half.
+ones-turn : (k w t b : ℕ) → b < 2 → w % 2 ≡ b → LowestFailing (hasBit (w / 2)) k t → LowestFailing (hasBit w) (suc k) (under (1 - b) t)
+ones-turn k w t zero small e rest = (zero-le, λ j (l : j < 0). absurd (not-suc-le-zero l), λ l. bit-low w ∙ rw e)
+ones-turn k w t (suc zero) small e rest = (omega (arith, rest .0), below, λ (l : suc t < suc k). bit-half w t ∙ rest .2 (le-of-suc-le-suc l))
+  where
+    below : (j : ℕ) → j < suc t → hasBit w j ≡ true
+    below zero l = bit-low w ∙ rw e
+    below (suc j) l = bit-half w j ∙ rest .1 j (le-of-suc-le-suc l)
+ones-turn k w t (suc (suc b)) small e rest = absurd (not-suc-le-zero (le-of-suc-le-suc (le-of-suc-le-suc small)))
+
+pub ones-below : (k w : ℕ) → w < 2 ^ k → LowestFailing (hasBit w) k (trailingZeros k (2 ^ k - 1 - w))
+unfolding trailingZeros
+ones-below zero w h = (zero-le, λ j (l : j < 0). absurd (not-suc-le-zero l), λ (l : 0 < 0). absurd (not-suc-le-zero l))
+ones-below (suc k) w h =
+    let p : 2 ^ suc k ≡ 2 ^ k * 2 = pow-suc 2 k in
+    let half : (2 ^ suc k - 1 - w) / 2 ≡ 2 ^ k - 1 - w / 2 = omega (arith, p, h) in
+    let low : (2 ^ suc k - 1 - w) % 2 ≡ 1 - w % 2 = omega (arith, p, h) in
+    let less : w / 2 < 2 ^ k = omega (arith, p, h) in
+    rw (half, low) (ones-turn k w _ (w % 2) (omega arith) refl (ones-below k (w / 2) less))
+
+-- All bytes below the word with index i are in the set, and so are the n lowest of this word.
+module _ (s : List ℕ) (i n : ℕ) (below : (y : ℕ) → y < 64 * i → hasByte s y ≡ true) (ones : LowestFailing (hasBit (getD s i 0)) 64 n) where
+  pub word-taken : (y : ℕ) → y < 64 * i + n → hasByte s y ≡ true
+  unfolding hasByte
+  word-taken y h = go (ltb y (64 * i)) refl
+    where
+      go : (b : Bool) → ltb y (64 * i) ≡ b → hasByte s y ≡ true
+      go true e = below y (ltb-true _ _ e)
+      go false e =
+          let le : 64 * i ≤ y = ltb-false _ _ e in
+          let few : n ≤ 64 = ones .0 in
+          let word : y / 64 ≡ i = omega arith in
+          let bit : y % 64 ≡ y - 64 * i = omega arith in
+          rw (word, bit) (ones .1 (y - 64 * i) (omega arith))
+
+  pub word-free : n < 64 → hasByte s (64 * i + n) ≡ false
+  unfolding hasByte
+  word-free h =
+      let word : (64 * i + n) / 64 ≡ i = omega arith in
+      let bit : (64 * i + n) % 64 ≡ n = omega arith in
+      rw (word, bit) (ones .2 h)

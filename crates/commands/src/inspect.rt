@@ -1,0 +1,73 @@
+// The lines that are no commands: a read's second call, sessions, single bytes and whole sectors; and those that are
+// passed over. Ruled out: a change of the byte after the last one (`must-fail/poke_past_the_end`); a sector shown that
+// the end of the volume cuts off.
+use crate::Action;
+use crate::lines::byte_argument;
+use crate::lines::command;
+use interface::Session;
+use script::fields::argument;
+use sector::Sector;
+ghost use mathlib.Core.Path.{_≡_};
+ghost use Rattle.interface.specs.Answers.{sessionOf};
+ghost use Rattle.rules.specs.Plans.{readPage};
+ghost use Rattle.rules.specs.Calls.{queryPart};
+ghost use Rattle.script.specs.Fields;
+ghost use Rattle.commands.specs.Lines.{byteArgument};
+ghost use Rattle.commands.specs.Inspect.{isRemark, poked, dumped};
+
+// Whether the line is passed over: it is empty or begins with `#`.
+pub fn is_remark(line: &[u8]) -> bool
+    ensures { λ r. ⌜ r ≡ isRemark (now (line .entry)) ⌝ }
+{
+    if line.len() == 0 {
+        return true;
+    }
+    line[0] == b'#'
+}
+
+// `session M`
+pub fn session(line: &[u8]) -> Session
+    ensures { λ r. ⌜ r ≡ sessionOf (byteArgument 1 (now (line .entry))) ⌝ }
+{
+    interface::session_of(byte_argument(line, 1))
+}
+
+// `read K F P`: the second call, which hands back the page itself.
+pub fn page<'a>(v: &'a [u8], s: Session, line: &[u8]) -> &'a [u8]
+    ensures { λ r. ⌜ now r ≡ queryPart (now (v .entry)) s
+        (readPage (byteArgument 1 (now (line .entry))) (byteArgument 2 (now (line .entry))) (byteArgument 3 (now (line .entry)))) ⌝ }
+{
+    crate::page(v, s, command(Action::Read, line))
+}
+
+// Argument n as an address.
+fn address(line: &[u8], n: usize) -> usize
+    ensures { λ r. ⌜ r ≡ Fields.argument n (now (line .entry)) ⌝ }
+{
+    argument(line, n) as usize
+}
+
+// `poke ADDRESS BYTE`: whether there is such an address.
+pub fn poke(v: &mut [u8], line: &[u8]) -> bool
+    ensures { λ r. ⌜ (record { isInside = r; volume = now (v .exit) }) ≡ poked (now (v .entry)) (now (line .entry)) ⌝ }
+{
+    let at = address(line, 1);
+    if v.len() <= at {
+        return false;
+    }
+    v[at] = byte_argument(line, 2);
+    true
+}
+
+// `dump S`: the sector, or an empty part if there is none.
+pub fn dump<'a>(v: &'a [u8], line: &[u8]) -> &'a [u8]
+    ensures { λ r. ⌜ now r ≡ dumped (now (v .entry)) (now (line .entry)) ⌝ }
+{
+    let s = address(line, 1);
+    if v.len() / Sector::SIZE <= s {
+        return &v[0..0];
+    }
+    let at = Sector::SIZE * s;
+    let e = at + Sector::SIZE;
+    &v[at..e]
+}

@@ -1,0 +1,4 @@
+pub mod ListLaws
+pub mod SearchLaws
+pub mod TestLaws
+pub mod CaseLaws

@@ -1,0 +1,116 @@
+// Where a page lies: the slot that the client's record has for it, else by the map; and the lowest slot of a file that is free.
+use byteset::add;
+use byteset::lowest_missing;
+ghost use mathlib.Core.Path.{_≡_};
+ghost use mathlib.Core.Bool.{_||_};
+ghost use Prim.Native.Nat.{ℕ};
+ghost use lib.ListN.{length, getD, getElem?};
+ghost use Rattle.lists.specs.Lists.{any, member};
+ghost use Rattle.sector.specs.Contents.{Table, Entry, Record, Header};
+ghost use Rattle.sector.specs.Entries.{forPage, givesSlot};
+ghost use Rattle.volume.specs.Places.{IsClient, IsFile, IsPage};
+ghost use Rattle.volume.specs.Views.{View};
+ghost use Rattle.volume.specs.Volumes.{view};
+ghost use Rattle.volume.specs.WellFormed.{WellFormed, HasEntry, noEntry};
+ghost use Rattle.byteset.specs.Set.{hasByte};
+ghost use Rattle.rules.specs.Plans.{entryFor, freeSlots, slotFor};
+ghost use Rattle.slots.specs.Slots.{slotOf, entrySlot};
+
+// What a search for a slot found.
+pub enum Found {
+    Slot(u8),
+    Nothing,
+}
+
+// Whether the entry with index i is for page p of file f.
+fn is_for_page(v: &[u8], k: u8, i: usize, f: u8, p: u8) -> bool
+    requires { ⌜ WellFormed (now v) × HasEntry (view (now v)) k i ⌝ }
+    ensures { λ r. ⌜ r ≡ forPage f p (getD (view (now (v .entry)) .records k .entries) i noEntry) ⌝ }
+{
+    if volume::entry_file(v, k, i) != f {
+        return false;
+    }
+    volume::entry_page(v, k, i) == p
+}
+
+// The slot that record k has for page p of file f.
+pub fn find_entry(v: &[u8], k: u8, f: u8, p: u8) -> Found
+    requires { ⌜ WellFormed (now v) × IsClient (view (now v) .table) k ⌝ }
+    ensures { λ r. ⌜ slotOf r ≡ entrySlot (entryFor (view (now (v .entry))) k f p) ⌝ }
+{
+    let n = sector::wide(volume::entry_count(v, k));
+    let mut i = 0;
+    while i < n {
+        if is_for_page(v, k, i, f, p) {
+            return Found::Slot(volume::entry_slot(v, k, i));
+        }
+        i += 1;
+    }
+    Found::Nothing
+}
+
+// Takes the slots in the map of file f.
+fn take_mapped(v: &[u8], f: u8, taken: &mut [u64; 4])
+    requires { ⌜ WellFormed (now v) × IsFile (view (now v) .table) f × (length (now taken) ≡ 4) ⌝ }
+    ensures { λ _. ⌜ ((y : ℕ) → hasByte (now (taken .exit)) y ≡ (hasByte (now (taken .entry)) y || member y (view (now (v .entry)) .headers f .map))) × (length (now (taken .exit)) ≡ 4) ⌝ }
+{
+    let n = volume::pages(v, f);
+    let mut p: u8 = 0;
+    while p < n {
+        add(taken, volume::mapped_slot(v, f, p));
+        p += 1;
+    }
+}
+
+// Takes the slot that the entry with index i gives for file f, if it does.
+fn take_entry(v: &[u8], k: u8, i: usize, f: u8, taken: &mut [u64; 4])
+    requires { ⌜ WellFormed (now v) × HasEntry (view (now v)) k i × (length (now taken) ≡ 4) ⌝ }
+    ensures { λ _. ⌜ ((y : ℕ) → hasByte (now (taken .exit)) y ≡ (givesSlot f y (getD (view (now (v .entry)) .records k .entries) i noEntry) || hasByte (now (taken .entry)) y)) × (length (now (taken .exit)) ≡ 4) ⌝ }
+{
+    if volume::entry_file(v, k, i) == f {
+        add(taken, volume::entry_slot(v, k, i));
+    }
+}
+
+// Takes the slots that record k gives for file f.
+fn take_given(v: &[u8], k: u8, f: u8, taken: &mut [u64; 4])
+    requires { ⌜ WellFormed (now v) × IsClient (view (now v) .table) k × (length (now taken) ≡ 4) ⌝ }
+    ensures { λ _. ⌜ ((y : ℕ) → hasByte (now (taken .exit)) y ≡ (hasByte (now (taken .entry)) y || any (givesSlot f y) (view (now (v .entry)) .records k .entries))) × (length (now (taken .exit)) ≡ 4) ⌝ }
+{
+    let n = sector::wide(volume::entry_count(v, k));
+    let mut i = 0;
+    while i < n {
+        take_entry(v, k, i, f, taken);
+        i += 1;
+    }
+}
+
+// The lowest slot of file f that is neither in its map nor given for it in record k. Ruled out: a choice by the map
+// alone, so that two pages of one transaction share a slot (`must-fail/free_by_map_alone`).
+pub fn free_slot(v: &[u8], k: u8, f: u8) -> Found
+    requires { ⌜ WellFormed (now v) × IsClient (view (now v) .table) k × IsFile (view (now v) .table) f ⌝ }
+    ensures { λ r. ⌜ slotOf r ≡ getElem? (freeSlots (view (now (v .entry))) k f) 0 ⌝ }
+{
+    let mut taken = [0u64; 4];
+    take_mapped(v, f, &mut taken);
+    take_given(v, k, f, &mut taken);
+    let n = volume::slots(v, f);
+    let r = lowest_missing(&taken, n);
+    if r < n {
+        return Found::Slot(r);
+    }
+    Found::Nothing
+}
+
+// The slot that a read of page p of file f by client k takes. Ruled out: the map's slot where the record has the page
+// (`must-fail/read_by_map_alone`).
+pub fn read_slot(v: &[u8], k: u8, f: u8, p: u8) -> u8
+    requires { ⌜ WellFormed (now v) × IsClient (view (now v) .table) k × IsPage (view (now v) .table) f p ⌝ }
+    ensures { λ r. ⌜ r ≡ slotFor (view (now (v .entry))) f p (entryFor (view (now (v .entry))) k f p) ⌝ }
+{
+    let found = find_entry(v, k, f, p);
+    match found {
+        Found::Slot(r) => r,
+        Found::Nothing => volume::mapped_slot(v, f, p),
+    }
+}

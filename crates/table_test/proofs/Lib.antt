@@ -1,0 +1,2 @@
+pub mod DecodingLaws
+pub mod TableLaws
