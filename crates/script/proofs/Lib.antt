@@ -1,3 +1,4 @@
 pub mod FieldLaws
 pub mod KindLaws
 pub mod TextLaws
+pub mod KindExamples
