@@ -1,6 +1,6 @@
 -- A volume put together from its places has in each what was put there, and a volume is its own places put together.
 -- Sector i of joined bytes is its owner's; a place owns its sector, and every sector before the later ones has an owner.
-use mathlib.Core.Path.{_≡_, ap, _∙_}
+use mathlib.Core.Path.{_≡_, refl, ap, _∙_}
 use mathlib.Core.List.{List, [], _∷_}
 use Prim.Native.Nat.{ℕ, zero, suc, _+_, _*_, _<_}
 use native.Mathlib.Omega.{arith}
@@ -35,6 +35,16 @@ module _ (t : Table) (at : Place → Bytes) (full : (p : Place) → Exists t p �
 
   pub assembled-length : length (assembled t at rest) ≡ 256 * endSector t + length rest
   assembled-length = omega (arith, joined-length (owners t) 0 (endSector t) (owners-cover t))
+
+-- It doesn't matter what stands in a place that there isn't.
+module _ (t : Table) (a b : Place → Bytes) (same : (p : Place) → Exists t p → a p ≡ b p) (rest : Bytes) where
+  joined-same : (ps : List Place) (s e : ℕ) → Covers t s ps e → joined a ps rest ≡ joined b ps rest
+  unfolding joined
+  joined-same [] s e c = refl
+  joined-same (p ∷ ps) s e c = rw (same p (c .0), joined-same ps (suc s) e (c .2))
+
+  pub assembled-same : assembled t a rest ≡ assembled t b rest
+  assembled-same = joined-same (owners t) 0 (endSector t) (owners-cover t)
 
 module _ (t : Table) (v : Volume) where
   joined-back : (ps : List Place) (s e : ℕ) → Covers t s ps e → joined (bytesAt t v) ps (drop (256 * e) v) ≡ drop (256 * s) v
