@@ -3,7 +3,7 @@
 ghost use mathlib.Core.Path.{_≡_};
 ghost use mathlib.Core.Bool.{true};
 ghost use Prim.Native.Nat.{_≤_, _<_};
-ghost use lib.ListN.{length};
+ghost use lib.ListN.{length, set};
 ghost use Rattle.sector.specs.Layout.{itemsRoom, entryLimit};
 ghost use Rattle.sector.specs.Contents.{File, Record, Header, appended};
 ghost use Rattle.sector.specs.Sectors.{zeroSector};
@@ -69,6 +69,16 @@ pub fn set_holder(buf: &mut [u8; 256], k: u8)
     ensures { λ _. ⌜ length (now (buf .exit)) ≡ 256 ⌝ }
 {
     buf[Offset::HOLDER] = k;
+}
+
+// The header's map gets another slot for page p.
+pub fn set_map_slot(buf: &mut [u8; 256], p: usize, slot: u8)
+    requires { ⌜ (length (now buf) ≡ 256) × (p < itemsRoom) ⌝ }
+    ensures { λ _. ⌜ ((x : File) (h : Header) → now (buf .entry) ≡ encodeHeader x h → p < length (h .map)
+        → now (buf .exit) ≡ encodeHeader x (record { holder = h .holder; map = set (h .map) p slot })) ⌝ }
+    ensures { λ _. ⌜ length (now (buf .exit)) ≡ 256 ⌝ }
+{
+    buf[Offset::ITEMS + p] = slot;
 }
 
 // The header's map gets the slot of the record's entry with index i, if that is for file f.

@@ -11,6 +11,7 @@ pub use build::append_entry;
 pub use build::load;
 pub use build::redo_map;
 pub use build::set_holder;
+pub use build::set_map_slot;
 pub use build::set_state;
 pub use build::zeros;
 pub use fresh::empty_record;

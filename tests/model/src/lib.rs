@@ -5,6 +5,7 @@
 //! - [`book`]: the plain book, which sees arguments and answers only.
 //! - [`call`]: one call and one answer as values.
 //! - [`script`]: scripts of calls, read, printed and run.
+//! - [`small`]: every sound volume of one small shape.
 //!
 //! The other modules serve the test driver `soak`.
 //!
@@ -23,4 +24,5 @@ pub mod posix;
 pub mod random;
 pub mod script;
 pub mod shrink;
+pub mod small;
 pub mod volume;

@@ -29,11 +29,11 @@ const DECIDED: u8 = 2;
 /// Where the named bytes stand in their sectors.
 const CLIENTS: usize = 4;
 const FILES: usize = 5;
-const STATE: usize = 2;
-const COUNT: usize = 3;
-const HOLDER: usize = 2;
+pub(crate) const STATE: usize = 2;
+pub(crate) const COUNT: usize = 3;
+pub(crate) const HOLDER: usize = 2;
 /// Table entries, record entries and map bytes all begin here.
-const BODY: usize = 8;
+pub(crate) const BODY: usize = 8;
 
 /// The refusals by number.
 pub mod refusal {

@@ -1,5 +1,6 @@
 //! The programs `run_script` and `list_volume` beside the model: on random
-//! scripts, right and wrong, and on volumes, whole and damaged.
+//! scripts, right and wrong, and on volumes, whole and damaged. Then the
+//! program `small_volumes`, which must write the model's small volumes.
 //!
 //!     programs DIRECTORY COUNT SEED
 
@@ -11,7 +12,8 @@ use std::{env, thread};
 use model::engine::Engine;
 use model::random::Random;
 use model::script::{listing, run, MAX_INPUT};
-use model::volume::{self, Session};
+use model::small;
+use model::volume::{self, Session, SECTOR_SIZE};
 
 fn main() -> ExitCode {
     let words: Vec<String> = env::args().collect();
@@ -21,12 +23,15 @@ fn main() -> ExitCode {
     };
     let mut random = Random::new(seed.parse().expect("SEED is a number"));
     let count = count.parse().expect("COUNT is a number");
+    let small_volumes = small::volumes();
     let agree = agrees(directory, "run_script", scripts(&mut random, count), played)
-        && agrees(directory, "list_volume", volumes(&mut random, count), listed);
+        && agrees(directory, "list_volume", volumes(&mut random, count), listed)
+        && writes(directory, "small_volumes", &small_volumes.concat());
     if !agree {
         return ExitCode::FAILURE;
     }
-    println!("programs: {count} scripts and {count} volumes, no difference from the model");
+    let small = small_volumes.len();
+    println!("programs: {count} scripts, {count} volumes and {small} small volumes, no difference from the model");
     ExitCode::SUCCESS
 }
 
@@ -200,4 +205,57 @@ fn call(random: &mut Random, volume: &mut [u8], session: Session, clients: u8, f
         _ => volume::commit(volume, session, client, budget),
     };
     session
+}
+
+// -------------------------------------------------------- the small volumes
+
+/// Whether the program writes just these small volumes, whatever its input.
+fn writes(directory: &str, name: &str, wanted: &[u8]) -> bool {
+    let program = Path::new(directory).join(name);
+    let inputs: [(&str, &[u8]); 2] = [("on an empty input", b""), ("on an input of bytes", b"list\n")];
+    for (when, input) in inputs {
+        let written = output(&program, input);
+        if written != wanted {
+            println!("{name} differs from the model {when}:");
+            println!("{}", difference(&written, wanted));
+            return false;
+        }
+    }
+    true
+}
+
+/// The first difference, what the volume with it is, and both numbers of
+/// volumes.
+fn difference(written: &[u8], wanted: &[u8]) -> String {
+    let place = written.iter().zip(wanted).take_while(|(one, other)| one == other).count();
+    let (index, offset) = (place / small::LENGTH, place % small::LENGTH);
+    let byte = |bytes: &[u8]| bytes.get(place).map_or(String::from("nothing"), |byte| format!("{byte:02X}"));
+    format!(
+        "volume {index} (the first is 0), sector {}, byte {}: {} instead of {}; {}\n{} written, {} in the model",
+        offset / SECTOR_SIZE,
+        offset % SECTOR_SIZE,
+        byte(written),
+        byte(wanted),
+        judgement(written.chunks(small::LENGTH).nth(index).unwrap_or(&[]), wanted),
+        number_of_volumes(written),
+        number_of_volumes(wanted),
+    )
+}
+
+/// What a volume that the program wrote is to the model.
+fn judgement(volume: &[u8], wanted: &[u8]) -> String {
+    match wanted.chunks(small::LENGTH).position(|other| other == volume) {
+        Some(index) => format!("it is the model's volume {index}"),
+        None if volume.len() < small::LENGTH => format!("only {} of its bytes are there", volume.len()),
+        None if volume::is_sound(volume) => String::from("it is sound, but none of the model's"),
+        None => String::from("it isn't sound"),
+    }
+}
+
+/// How many volumes the bytes are, and how many bytes are left over.
+fn number_of_volumes(bytes: &[u8]) -> String {
+    match bytes.len() % small::LENGTH {
+        0 => format!("{} volumes", bytes.len() / small::LENGTH),
+        left => format!("{} volumes and {left} bytes", bytes.len() / small::LENGTH),
+    }
 }

@@ -1,0 +1,11 @@
+pub mod MemberLaws
+pub mod PairLaws
+pub mod OrderLaws
+pub mod SmallLaws
+pub mod CompleteLaws
+pub mod CountLaws
+pub mod ChoiceLaws
+pub mod MadeLaws
+pub mod AdvanceLaws
+pub mod WalkLaws
+pub mod SmallExamples
