@@ -9,7 +9,7 @@ use native.Mathlib.Nat.{not-suc-le-zero}
 use native.Mathlib.Omega.{arith}
 use borrow.Author.Tests.{leb-true}
 use lib.Dec.{leb}
-use lib.ListN.{length, getD}
+use lib.ListN.{length, getD, drop}
 use Rattle.lists.specs.Lists.{every, from}
 use Rattle.lists.proofs.ListLaws.{every-at}
 use Rattle.lists.proofs.SearchLaws.{from-at}
@@ -56,11 +56,7 @@ candidates-count = refl
 agree-at : {A : Type 0} (f g : ℕ → A) (n a : ℕ) → map f (from a n) ≡ map g (from a n) → (i : ℕ) → a ≤ i → i < a + n → f i ≡ g i
 agree-at f g zero a e i lo hi = absurd (not-suc-le-zero {n = 0} (omega arith))
 agree-at f g (suc n) a e i lo hi =
-    by-equal i a (λ q. rw q (ap (λ l. getD l 0 (g a)) e)) (λ q. agree-at f g n (suc a) (ap (λ l. tail l) e) i (omega arith) (omega arith))
-  where
-    tail : {A : Type 0} → List A → List A
-    tail [] = []
-    tail (x ∷ xs) = xs
+    by-equal i a (λ q. rw q (ap (λ l. getD l 0 (g a)) e)) (λ q. agree-at f g n (suc a) (ap (λ l. drop 1 l) e) i (omega arith) (omega arith))
 
 -- List 0 is empty; list k is list (k - 1) / 6 with entry (k - 1) % 6 behind it.
 abbrev longer : ℕ → List Entry

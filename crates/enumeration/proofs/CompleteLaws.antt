@@ -1,5 +1,5 @@
--- Every small volume is in the list, and no other one is. A small volume is its places put together: the table, zeros, and the
--- encodings of a record and a header that fit; and what fits is among the choices.
+-- Every small volume is in the list: it is the volume of its own view, so it is that of its record and its header; these fit, and
+-- what fits is among the choices.
 use mathlib.Core.Path.{_≡_, refl, sym, _∙_, subst}
 use mathlib.Core.Bool.{true, false, not}
 use mathlib.Core.List.{List, [], _∷_, Memᴰ·cast}
@@ -19,6 +19,7 @@ use Rattle.volume.specs.Lawful.{entryFits, pagesDiffer, recordFits}
 use Rattle.volume.specs.Volumes.{Volume, view}
 use Rattle.volume.specs.Sound.{sound}
 use Rattle.volume.specs.WellFormed.{WellFormed}
+use Rattle.volume.specs.Assembled.{assembled, bytesFor}
 use Rattle.volume.proofs.LawfulLaws.{RecordFacts, record-facts, HeaderFacts, Lawful}
 use Rattle.volume.proofs.SoundLaws.{fine}
 use Rattle.volume.proofs.AssembledLaws.{assembled-same}
@@ -27,7 +28,6 @@ use Rattle.enumeration.specs.Lists.{In, listsOf}
 use Rattle.enumeration.specs.Choices.{smallTable, mapValues, entryChoices, entryLists, recordChoices, slotsLeft, mapChoices, headerChoices}
 use Rattle.enumeration.specs.Small.{IsSmall, smallView, smallVolume, candidates, smallVolumes}
 use Rattle.enumeration.specs.Statements.{Complete}
-use Rattle.volume.specs.Assembled.{assembled, bytesFor}
 use Rattle.enumeration.proofs.SmallLaws.{small-file}
 use Rattle.enumeration.proofs.MemberLaws.{every-in, in-filter, in-flat, in-pairs, in-from, in-lists}
 

@@ -1,4 +1,5 @@
 -- The list's number and its order, evaluated: the records that fit, each with the headers that fit beside it, are the sound candidates.
+-- And no volume but a small one is in the list: each is the volume of a record and a header, and sound.
 use mathlib.Core.Path.{_≡_, refl, ap}
 use mathlib.Core.Bool.{true}
 use mathlib.Core.List.{List, [], map, flatMap}

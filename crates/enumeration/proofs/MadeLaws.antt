@@ -1,52 +1,39 @@
 -- A candidate as it is made: the layout of the small shape is the volume of an idle record and a new header, and each store puts
 -- another one in its sector.
-use mathlib.Core.Path.{_≡_, refl, sym, ap, _∙_}
-use mathlib.Core.List.{[], _∷_, _++_, append-assoc}
-use Prim.Native.Nat.{ℕ, _+_, _*_, _/_, _%_, _≤_, _<_}
+use mathlib.Core.Path.{_≡_, sym, ap, _∙_}
+use mathlib.Core.List.{[], _∷_}
+use Prim.Native.Nat.{ℕ, _/_, _%_, _≤_, _<_}
 use native.Mathlib.Omega.{arith}
-use lib.ListN.{length, getD, length-append}
-use lib.Seq.{take-at, drop-at, drop-append-add}
+use lib.ListN.{length, getD}
 use Rattle.lists.specs.Lists.{all, first}
 use Rattle.sector.specs.Layout.{itemsRoom, entryLimit}
-use Rattle.sector.specs.Contents.{Bytes, Record, Header, idleRecord, newHeader}
-use Rattle.sector.specs.Sectors.{storeAt, padded, zeroSector}
-use Rattle.sector.specs.Encoding.{fileBytes, encodeTable, entryBytes, encodeRecord, encodeHeader}
+use Rattle.sector.specs.Contents.{Record, Header, idleRecord, newHeader}
+use Rattle.sector.specs.Sectors.{storeAt, zeroSector}
+use Rattle.sector.specs.Encoding.{encodeTable, encodeRecord, encodeHeader}
 use Rattle.sector.specs.Shapes.{filesOf}
+use Rattle.sector.proofs.SectorLaws.{store-part, store-behind}
+use Rattle.volume.proofs.FormatLaws.{rest, new-volume}
 use Rattle.sector.proofs.CodecLaws.{table-length, record-length, header-length}
 use Rattle.volume.specs.Places.{sectorAfter}
 use Rattle.volume.specs.Views.{noHeader, setRecord, setHeader}
 use Rattle.volume.specs.Volumes.{Volume}
 use Rattle.volume.specs.Stores.{updated}
 use Rattle.volume.specs.Assembled.{fileOwners, owners, joined}
-use Rattle.volume.specs.Format.{lengthFits, shapeFits, endFits, formatTests, repeated, newFiles, newVolume, Formatted, format}
+use Rattle.volume.specs.Format.{lengthFits, shapeFits, endFits, formatTests, newVolume, Formatted, format}
 use Rattle.enumeration.specs.Choices.{smallFile, smallTable, recordChoices, headerChoices}
 use Rattle.enumeration.specs.Small.{smallVolume, candidates}
 use Rattle.enumeration.proofs.ChoiceLaws.{candidates-count, list-few, record-at, candidate-at}
 
 -- ------------------------------------------------------------------ the layout
 new-small : newVolume smallTable ≡ smallVolume idleRecord (newHeader smallFile)
-unfolding newVolume repeated newFiles sectorAfter smallVolume owners fileOwners joined zeroSector padded encodeTable fileBytes encodeRecord entryBytes encodeHeader
-new-small = refl
+unfolding smallVolume owners fileOwners joined rest sectorAfter zeroSector
+new-small = new-volume smallTable
 
 pub laid-out : (v : Volume) (f : Formatted) → length v ≡ 1536 → f ≡ format v 1 (2 ∷ 3 ∷ []) → f .volume ≡ smallVolume idleRecord (newHeader smallFile)
 unfolding format formatTests lengthFits shapeFits endFits all first filesOf sectorAfter
 laid-out v f size e = ap (λ (f : Formatted). f .volume) e ∙ rw size new-small
 
 -- ------------------------------------------------------------------ the stores
--- A sector with others before and behind it.
-store-part : (a b c d : Bytes) (s : ℕ) → length a ≡ 256 * s → length b ≡ 256 → storeAt (a ++ (b ++ c)) s d ≡ a ++ (d ++ c)
-unfolding storeAt
-store-part a b c d s e full =
-    let z : 256 * s + 256 ≡ length a + 256 = omega arith in
-    rw (take-at a (b ++ c) (256 * s) e, z, drop-append-add a (b ++ c) 256, drop-at b c 256 full)
-
--- The same behind two others.
-store-behind : (a p b c d : Bytes) (s : ℕ) → length a + length p ≡ 256 * s → length b ≡ 256
-    → storeAt (a ++ (p ++ (b ++ c))) s d ≡ a ++ (p ++ (d ++ c))
-store-behind a p b c d s e full =
-    ap (λ (l : Bytes). storeAt l s d) (sym (append-assoc a p (b ++ c)))
-    ∙ (store-part (a ++ p) b c d s (length-append a p ∙ e) full ∙ append-assoc a p (d ++ c))
-
 table-full : length (encodeTable smallTable) ≡ 256
 table-full = table-length smallTable (omega arith)
 
