@@ -39,7 +39,7 @@ module _ {a : View} {s : Session} {k : ℕ} where
           client = act-client (w .place .act);
           file = w .place .file;
           absent = absent;
-          lowest = refl;
+          choice = refl;
           below = chosen-free a k f p (rw absent at (w .room)) .below;
           room = omega (arith, own-record (w .place .act) .few);
         }

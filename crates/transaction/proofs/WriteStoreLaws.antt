@@ -26,7 +26,7 @@ again-plan a s k f p slot d e found same = rw (found, same)
 new-plan : (a : View) (s : Session) (k f p slot : ℕ) (d : Bytes) → NewPage a k f p slot
     → plan a s (write k f p d) ≡ (setSlot f slot d ∷ []) ++ (setRecord k (appended (a .records k) (record { file = f; page = p; slot = slot })) ∷ [])
 unfolding plan
-new-plan a s k f p slot d new = rw (new .absent, new .lowest)
+new-plan a s k f p slot d new = rw (new .absent, new .choice)
 
 module _ {v : Volume} (formed : WellFormed v) {k f p slot : ℕ} (new : NewPage (view v) k f p slot) {d : Bytes} (size : length d ≡ 256)
     {w : Volume} {r q : Run} (m : UpdatesMade v r (setSlot f slot d ∷ []) w q) where

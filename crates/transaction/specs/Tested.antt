@@ -13,6 +13,6 @@ pub record NewPage (a : View) (k f p slot : ℕ) : Type 0 where
   pub client : IsClient (a .table) k
   pub file : IsFile (a .table) f
   pub absent : entryFor a k f p ≡ none
-  pub lowest : slot ≡ chosen a k f p
+  pub choice : slot ≡ chosen a k f p
   pub below : slot < fileAt (a .table) f .slots
   pub room : length (a .records k .entries) < entryLimit
