@@ -85,6 +85,8 @@ uint64_t vol_open(uint8_t *volume, size_t len, uint8_t session, uint8_t client, 
 uint64_t vol_read(const uint8_t *volume, size_t len, uint8_t session, uint8_t client, uint8_t file, uint8_t page);
 
 // Writes 256 bytes as the page of a file that the client holds; others see them after the commit.
+// The first write of a page in a transaction takes a free sector of the file: the first above the page's own, and after the
+// file's last sector from its first again. Later ones go to the same sector.
 // `bytes` must not lie in the volume: copy a page that was read before it is written elsewhere.
 // Reply: done with 2 stores, or 1 for a page that this transaction wrote before; cut; or refused.
 // Refused by 1, 2, 3, 5, 6, 8, 9, 10, 11, 12.

@@ -62,7 +62,7 @@ impl Bars {
 
     /// Prints the verdict: whether all bars are met.
     pub fn verdict(&self) -> bool {
-        println!("\n6. BARS\n");
+        println!("\n7. BARS\n");
         println!("highest ratio of instructions {:.2}, of {} measured calls", self.worst, self.calls);
         println!("highest stack {} bytes, {STACK_LIMIT} are allowed", self.highest);
         for longer in &self.longer {

@@ -54,6 +54,13 @@ impl Call {
         Call::new(function, bytes.iter().map(|&byte| Argument::Byte(byte)).collect())
     }
 
+    /// The same call with another budget, its last argument.
+    pub fn with_budget(&self, budget: u8) -> Call {
+        let mut call = self.clone();
+        *call.arguments.last_mut().expect("a budget") = Argument::Byte(budget);
+        call
+    }
+
     /// The call of the function at `entry` on these arrays.
     pub fn ready(&self, entry: usize, volume: &mut [u8], text: &mut [u8]) -> Ready {
         let mut ready = Ready { entry, words: [0; WORDS], count: 0 };

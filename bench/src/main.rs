@@ -1,14 +1,16 @@
-//! Measures what each call costs, and sets it beside the same call in Rust.
-//! Ends with status 1 if a bar isn't met.
+//! Measures what each call costs, and sets it beside the same call in Rust;
+//! and how stores wear the sectors. Ends with status 1 if a bar isn't met.
 
 mod bars;
 mod call;
+mod choice;
 mod clock;
 mod code;
 mod costs;
 mod growth;
 mod paint;
 mod place;
+mod rewrites;
 mod rust_side;
 mod scene;
 mod scenes;
@@ -16,7 +18,9 @@ mod side;
 mod stacks;
 mod stage;
 mod steps;
+mod stored;
 mod trampoline;
+mod wear;
 mod written;
 
 use std::process::ExitCode;
@@ -29,6 +33,7 @@ fn main() -> ExitCode {
     stacks::print(&places, &mut bars);
     code::print();
     written::print();
+    wear::print();
     if bars.verdict() {
         ExitCode::SUCCESS
     } else {

@@ -31,6 +31,11 @@ impl Place {
         1 + usize::from(self.clients) + in_files
     }
 
+    /// The last slot of the last file.
+    pub fn last_slot(&self) -> u8 {
+        self.shape.last().expect("a file") - 1
+    }
+
     /// The last page that isn't written.
     pub fn unwritten(&self) -> (u8, u8) {
         let pages =

@@ -40,7 +40,7 @@ fn starts(place: &Place) -> Vec<Scene> {
     ]
 }
 
-/// read and write.
+/// read and write. A page in the last slot of its file takes a lower one.
 fn pages(place: &Place) -> Vec<Scene> {
     let last = place.clients;
     let (&(file, page), before) = place.writes.split_last().expect("a write");
@@ -48,10 +48,14 @@ fn pages(place: &Place) -> Vec<Scene> {
     let written = place.written(1, &place.writes);
     let session = written.session;
     let write = stage::write(session, last, file, page);
+    let unwritten = place.written(1, before);
+    let mut in_last_slot = unwritten.clone();
+    in_last_slot.volume[256 * place.last_header() + 8 + usize::from(page)] = place.last_slot();
     vec![
         Scene::of_bytes("read, own write", &written, Function::Read, &[session, last, file, page]),
         Scene::of_bytes("read, by the map", &written, Function::Read, &[session, last, old_file, old_page]),
-        Scene::new("write, new page", &place.written(1, before), write.clone()),
+        Scene::new("write, new page", &unwritten, write.clone()),
+        Scene::new("write, from slot 0 again", &in_last_slot, write.clone()),
         Scene::new("write, the same page again", &written, write),
     ]
 }
@@ -84,4 +88,32 @@ fn refusals(place: &Place) -> Vec<Scene> {
         Scene::of_bytes("begin, refused by 4", &written, Function::Begin, &[session, last, BUDGET]),
         Scene::new("write, refused by 10", &written, short),
     ]
+}
+
+#[cfg(test)]
+mod tests {
+    use super::*;
+    use crate::place::{largest, middle, small};
+
+    /// What the name says of the reply: done, cut, refused, or a sector.
+    fn kind(scene: &Scene) -> u64 {
+        match scene.call.function {
+            Function::Read => 3,
+            _ if scene.name.contains("refused") => 2,
+            _ if scene.name.contains("cut") => 1,
+            _ => 0,
+        }
+    }
+
+    /// A call that is refused by mistake would be measured for a done one.
+    #[test]
+    fn replies_are_as_the_names_say() {
+        for place in [small(), middle(), largest()] {
+            for scene in scenes(&place) {
+                if !matches!(scene.call.function, Function::IsSound | Function::List) {
+                    assert_eq!(scene.reply() & 0xFF, kind(&scene), "{}, {}", place.name, scene.name);
+                }
+            }
+        }
+    }
 }

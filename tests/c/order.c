@@ -1,5 +1,5 @@
-// The plan of the stores: each call with the sectors that the rules of document 01 make it store, in order. Every store
-// of it changes a byte of its sector.
+// The plan of the stores: each call with the sectors that the rules make it store, in order. Every store of it changes a
+// byte of its sector.
 #include <stdio.h>
 #include <string.h>
 
@@ -71,10 +71,20 @@ static void e2(void) {
     keep();
 }
 
+// The next transaction. Page 0 of file 1 is in its last slot, and goes to slot 0; that of file 2 goes from slot 1 to 2.
+static void pages_again(void) {
+    STORES("begin", begin(0, 1), {1, opened});
+    STORES("open", open(1, 1, 1), {3, held});
+    STORES("open", open(1, 1, 2), {7, held});
+    STORES("write, from slot 0 again", write(1, 1, 1, 0, 40), {4, new_page}, {1, entry});
+    STORES("write", write(1, 1, 2, 0, 50), {10, new_page}, {1, entry});
+}
+
 // Commit: record k decided; then recovery: each header naming k, rising, and last the record idle. Abort: recovery
 // alone.
 static void commit_and_abort(void) {
     STORES("commit", commit(1, 1), {1, decided}, {3, redone}, {7, redone}, {1, idle});
+    pages_again();
     back();
     STORES("abort", abort_(1, 1), {3, freed}, {7, freed}, {1, idle});
     back();

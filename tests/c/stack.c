@@ -9,7 +9,7 @@
 
 enum { LIMIT = 1024, ROOM = 65536, LENGTH = 262144, FILES = 16, LAST = 16, ENTRIES = 62 };
 // The files end before sector 821. The last one's map names its first 120 slots of 240, so that new pages go behind them.
-enum { LAST_SECTOR = 821 - 240 + 120 + ENTRIES - 1 };
+enum { FIRST_SLOT = 821 - 240, LAST_SECTOR = FIRST_SLOT + 120 + ENTRIES - 1 };
 
 uint64_t on_stack(void *fn, void *top, const uint64_t *args);
 
@@ -66,8 +66,8 @@ static uint64_t write_by(const struct writing *w) {
     return vol_write(volume, LENGTH, w->session, w->client, w->file, w->page, page, w->count, 255);
 }
 
-static void report_write(const char *name, uint64_t expected, uint8_t number, size_t count) {
-    const struct writing w = {8, 4, LAST, number, count};
+static void report_write(const char *name, uint64_t expected, uint8_t file, uint8_t number, size_t count) {
+    const struct writing w = {8, 4, file, number, count};
     report(name, expected, (void *)write_by, (uint64_t)&w, 0, 0, 0, 0, 0);
 }
 
@@ -80,14 +80,25 @@ static void begin_and_open(uint64_t v) {
     report("vol_open", reply(VOL_DONE, 8, 1), (void *)vol_open, v, LENGTH, 8, 4, LAST, 255);
 }
 
+// A page in its file's last slot: the search goes on from slot 0, and finds the slot that the map had for the page.
+static void write_from_0(void) {
+    memcpy(written, volume, LENGTH);
+    volume[256 * (FIRST_SLOT - 1) + 8 + ENTRIES - 1] = 239;
+    report_write("vol_write, from slot 0 again", reply(VOL_DONE, 8, 2), LAST, ENTRIES - 1, 256);
+    expect("the page written", memcmp(volume + 256 * (FIRST_SLOT + ENTRIES - 1), page, 256) == 0, 1);
+    memcpy(volume, written, LENGTH);
+}
+
 // Its record gets as many entries as it can have.
 static void write_pages(void) {
     for (uint8_t p = 0; p < ENTRIES - 1; p++)
         expect("vol_write", vol_write(volume, LENGTH, 8, 4, LAST, p, page, 256, 255), reply(VOL_DONE, 8, 2));
-    report_write("vol_write, the last entry", reply(VOL_DONE, 8, 2), ENTRIES - 1, 256);
-    report_write("vol_write, the same page again", reply(VOL_DONE, 8, 1), ENTRIES - 1, 256);
-    report_write("vol_write, refused: record full", reply(VOL_REFUSED, 8, 12), ENTRIES, 256);
-    report_write("vol_write, refused: page length", reply(VOL_REFUSED, 8, 10), ENTRIES, 255);
+    write_from_0();
+    report_write("vol_write, refused: no free slot", reply(VOL_REFUSED, 8, 11), 1, 0, 256);
+    report_write("vol_write, the last entry", reply(VOL_DONE, 8, 2), LAST, ENTRIES - 1, 256);
+    report_write("vol_write, the same page again", reply(VOL_DONE, 8, 1), LAST, ENTRIES - 1, 256);
+    report_write("vol_write, refused: record full", reply(VOL_REFUSED, 8, 12), LAST, ENTRIES, 256);
+    report_write("vol_write, refused: page length", reply(VOL_REFUSED, 8, 10), LAST, ENTRIES, 255);
 }
 
 static void look(uint64_t v) {

@@ -1,17 +1,21 @@
--- The lowest byte that is not in a set is the lowest clear bit of the first word that has one: the ones below it are the zeros at
--- the end of the word's complement, which is shown bit by bit.
+-- The lowest byte from a start on that is not in a set is the lowest clear bit of the first word that has one, where the bits
+-- before the start count as set: the ones below it are the zeros at the end of the word's complement, which is shown bit by bit.
 use mathlib.Core.Path.{_≡_, refl, sym, ap, _∙_}
-use mathlib.Core.Bool.{Bool, true, false, not}
+use mathlib.Core.Bool.{true, false, not}
 use mathlib.Core.List.{List}
 use Prim.Native.Nat.{ℕ, zero, suc, _+_, _*_, _-_, _/_, _%_, _^_, _<_, _≤_, zero-le}
 use native.Mathlib.Nat.{min-zero, pow-suc, not-suc-le-zero, le-of-suc-le-suc}
 use native.Mathlib.Omega.{arith}
-use borrow.Author.Tests.{ne-eqb, ltb-true, ltb-false}
-use lib.Bits.{bitAnd, and-mask, and-step}
+use borrow.Author.Tests.{ne-eqb, ltb-true, ltb-false, lt-ltb, le-ltb}
+use lib.Bits.{bitAnd, bitOr, and-mask, and-step, and-zero-l}
 use lib.Count.{trailingZeros, under}
 use lib.Dec.{eqb, ltb}
 use lib.ListN.{getD}
-use Rattle.byteset.specs.Set.{hasByte, hasBit, LowestFailing}
+use lib.Pow.{pow-pos}
+use Rattle.lists.proofs.CaseLaws.{by-test}
+use Rattle.lists.proofs.TestLaws.{iff}
+use Rattle.byteset.specs.Set.{hasByte, hasBit, passesOver, LowestFailing}
+use Rattle.byteset.proofs.SetLaws.{bit-or}
 
 -- ------------------------------------------------------------------ the lowest clear bit
 -- The lowest bit, and those above it in the word's half.
@@ -51,24 +55,44 @@ ones-below (suc k) w h =
     let less : w / 2 < 2 ^ k = omega (arith, p, h) in
     rw (half, low) (ones-turn k w _ (w % 2) (omega arith) refl (ones-below k (w / 2) less))
 
--- All bytes below the word with index i are in the set, and so are the n lowest of this word.
-module _ (s : List ℕ) (i n : ℕ) (below : (y : ℕ) → y < 64 * i → hasByte s y ≡ true) (ones : LowestFailing (hasBit (getD s i 0)) 64 n) where
-  pub word-taken : (y : ℕ) → y < 64 * i + n → hasByte s y ≡ true
-  unfolding hasByte
-  word-taken y h = go (ltb y (64 * i)) refl
-    where
-      go : (b : Bool) → ltb y (64 * i) ≡ b → hasByte s y ≡ true
-      go true e = below y (ltb-true _ _ e)
-      go false e =
-          let le : 64 * i ≤ y = ltb-false _ _ e in
-          let few : n ≤ 64 = ones .0 in
-          let word : y / 64 ≡ i = omega arith in
-          let bit : y % 64 ≡ y - 64 * i = omega arith in
-          rw (word, bit) (ones .1 (y - 64 * i) (omega arith))
+-- ------------------------------------------------------------------ the bits before a start
+lt-alike : (a b c d : ℕ) → (a < b → c < d) → (c < d → a < b) → ltb a b ≡ ltb c d
+lt-alike a b c d to back = iff _ _ (λ e. lt-ltb c d (to (ltb-true a b e))) (λ e. lt-ltb a b (back (ltb-true c d e)))
 
-  pub word-free : n < 64 → hasByte s (64 * i + n) ≡ false
+-- The word 2 ^ k - 1 has the bits below k.
+bits-below : (k j : ℕ) → hasBit (2 ^ k - 1) j ≡ ltb j k
+bits-below zero j = rw (and-zero-l (2 ^ j)) (sym (le-ltb j 0 zero-le))
+bits-below (suc k) zero =
+    let p : 2 ^ suc k ≡ 2 ^ k * 2 = pow-suc 2 k in
+    let odd : (2 ^ suc k - 1) % 2 ≡ 1 = omega (arith, p, pow-pos k) in
+    bit-low (2 ^ suc k - 1) ∙ rw odd (sym (lt-ltb 0 (suc k) (omega arith)))
+bits-below (suc k) (suc j) =
+    let p : 2 ^ suc k ≡ 2 ^ k * 2 = pow-suc 2 k in
+    let half : (2 ^ suc k - 1) / 2 ≡ 2 ^ k - 1 = omega (arith, p, pow-pos k) in
+    bit-half (2 ^ suc k - 1) j ∙ rw half (bits-below k j ∙ lt-alike j k (suc j) (suc k) (λ h. omega arith) (λ h. omega arith))
+
+-- In the word of `start` they are the bytes before it.
+pub start-bits : (start j : ℕ) → hasBit (2 ^ (start % 64) - 1) j ≡ ltb (64 * (start / 64) + j) start
+start-bits start j =
+    bits-below (start % 64) j ∙ lt-alike j (start % 64) (64 * (start / 64) + j) start (λ h. omega arith) (λ h. omega arith)
+
+-- All bytes below the word with index i are passed over. Of this word b has the bits below the start, and with them the n lowest
+-- are set.
+module _ (start : ℕ) (s : List ℕ) (i b n : ℕ) (below : (y : ℕ) → y < 64 * i → passesOver start s y ≡ true)
+    (before : (j : ℕ) → j < 64 → hasBit b j ≡ ltb (64 * i + j) start) (ones : LowestFailing (hasBit (bitOr (getD s i 0) b)) 64 n) where
+  word-bit : (j : ℕ) → j < 64 → hasBit (bitOr (getD s i 0) b) j ≡ passesOver start s (64 * i + j)
   unfolding hasByte
-  word-free h =
-      let word : (64 * i + n) / 64 ≡ i = omega arith in
-      let bit : (64 * i + n) % 64 ≡ n = omega arith in
-      rw (word, bit) (ones .2 h)
+  word-bit j h =
+      let word : (64 * i + j) / 64 ≡ i = omega arith in
+      let bit : (64 * i + j) % 64 ≡ j = omega arith in
+      bit-or (getD s i 0) b j ∙ rw (before j h, word, bit)
+
+  pub word-taken : (y : ℕ) → y < 64 * i + n → passesOver start s y ≡ true
+  word-taken y h = by-test (ltb y (64 * i)) (λ e. below y (ltb-true _ _ e)) (λ e.
+      let le : 64 * i ≤ y = ltb-false _ _ e in
+      let few : n ≤ 64 = ones .0 in
+      let at : y ≡ 64 * i + (y - 64 * i) = omega arith in
+      ap (passesOver start s) at ∙ sym (word-bit (y - 64 * i) (omega arith)) ∙ ones .1 (y - 64 * i) (omega arith))
+
+  pub word-free : n < 64 → passesOver start s (64 * i + n) ≡ false
+  word-free h = sym (word-bit n h) ∙ ones .2 h

@@ -2,19 +2,21 @@
 -- Bit k of a word w is w / 2 ^ k % 2. An or of two words is an or of their bits, and 2 ^ i has bit i alone: division by 2 ^ k
 -- leaves 1 where k is i, 0 where it is more, and an even number where it is less.
 use mathlib.Core.Path.{_≡_, refl, sym, ap, _∙_}
-use mathlib.Core.Bool.{Bool, true, false, not, _||_}
+use mathlib.Core.Bool.{Bool, true, false, not, _||_, or-false}
 use mathlib.Core.List.{List}
 use mathlib.Core.Logic.{_≢_}
 use Prim.Native.Nat.{ℕ, zero, suc, _+_, _*_, _-_, _/_, _%_, _^_, _<_, _≤_}
 use native.Mathlib.Nat.{pow-suc}
 use native.Mathlib.Omega.{arith}
 use borrow.Author.Tests.{eqb-true, eqb-false, eq-eqb, ne-eqb, ltb-true, ltb-false}
-use lib.Bits.{bitAnd, bitOr, and-high, or-shr, or-mod, or-zero-r, or-add-and, and-le-l, and-le-r}
+use lib.Bits.{bitAnd, bitOr, and-high, or-shr, or-mod}
 use lib.Dec.{eqb, ltb}
 use lib.ListN.{length, getD, set, replicate}
 use lib.Pow.{pow-add, pow-pos, pow-lt, shl-shr, shl-exact, high}
 use lib.Seq.{getD-set-same, getD-set-other}
 use Rattle.lists.proofs.ListLaws.{zeros-at}
+use Rattle.lists.proofs.SearchLaws.{or-true}
+use Rattle.lists.proofs.TestLaws.{not-and, or-zero}
 use Rattle.byteset.specs.Set.{noBytes, hasBit, hasByte, withByte}
 
 -- ------------------------------------------------------------------ the bits of one word
@@ -59,21 +61,16 @@ other-bit i k n = go (ltb i k) refl
         let m : i ≡ suc (i - k - 1) + k = omega arith in
         ap (λ (x : ℕ). 2 ^ x / 2 ^ k % 2) m ∙ high-bit (i - k - 1) k
 
-or-bit : (w i k : ℕ) → bitOr w (2 ^ i) / 2 ^ k % 2 ≡ bitOr (w / 2 ^ k % 2) (2 ^ i / 2 ^ k % 2)
-or-bit w i k = ap (λ (x : ℕ). x % 2) (or-shr w (2 ^ i) k) ∙ or-mod (w / 2 ^ k) (2 ^ i / 2 ^ k) 1
+pub bit-or : (w v k : ℕ) → hasBit (bitOr w v) k ≡ (hasBit w k || hasBit v k)
+bit-or w v k =
+    let q : bitOr w v / 2 ^ k % 2 ≡ bitOr (w / 2 ^ k % 2) (v / 2 ^ k % 2) = ap (λ (x : ℕ). x % 2) (or-shr w v k) ∙ or-mod (w / 2 ^ k) (v / 2 ^ k) 1 in
+    rw (bit-is (bitOr w v) k, q, or-zero (w / 2 ^ k % 2) (v / 2 ^ k % 2), bit-is w k, bit-is v k) (not-and (eqb (w / 2 ^ k % 2) 0) (eqb (v / 2 ^ k % 2) 0))
 
 bit-same : (w k : ℕ) → hasBit (bitOr w (2 ^ k)) k ≡ true
-bit-same w k =
-    let b : ℕ = w / 2 ^ k % 2 in
-    let q : bitOr w (2 ^ k) / 2 ^ k % 2 ≡ bitOr b 1 = or-bit w k k ∙ ap (bitOr b) (own-bit k) in
-    let n : bitOr b 1 ≢ 0 = λ (e : bitOr b 1 ≡ 0). omega (arith, e, or-add-and b 1, and-le-l b 1, and-le-r b 1) in
-    bit-is (bitOr w (2 ^ k)) k ∙ ap not (ap (λ (x : ℕ). eqb x 0) q ∙ ne-eqb _ _ n)
+bit-same w k = bit-or w (2 ^ k) k ∙ or-true (hasBit w k) _ (bit-is (2 ^ k) k ∙ rw (own-bit k))
 
 bit-other : (w i k : ℕ) → i ≢ k → hasBit (bitOr w (2 ^ i)) k ≡ hasBit w k
-bit-other w i k n =
-    let b : ℕ = w / 2 ^ k % 2 in
-    let q : bitOr w (2 ^ i) / 2 ^ k % 2 ≡ b = or-bit w i k ∙ ap (bitOr b) (other-bit i k n) ∙ or-zero-r b in
-    bit-is (bitOr w (2 ^ i)) k ∙ ap (λ (x : ℕ). not (eqb x 0)) q ∙ sym (bit-is w k)
+bit-other w i k n = bit-or w (2 ^ i) k ∙ rw (bit-is (2 ^ i) k, other-bit i k n) (or-false (hasBit w k))
 
 -- ------------------------------------------------------------------ the set
 pub mask-is : (x r : ℕ) → r ≡ x % 64 → 1 * 2 ^ r % 18446744073709551616 ≡ 2 ^ (x % 64)

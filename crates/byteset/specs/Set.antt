@@ -1,10 +1,10 @@
 -- A set of bytes in four words of 64 bits: byte x is bit x % 64 of word x / 64.
 use mathlib.Core.Path.{_≡_}
-use mathlib.Core.Bool.{Bool, true, false, not}
+use mathlib.Core.Bool.{Bool, true, false, not, _||_}
 use mathlib.Core.List.{List, [], _∷_}
 use Prim.Native.Nat.{ℕ, _/_, _%_, _^_, _≤_, _<_}
 use lib.Bits.{bitAnd, bitOr}
-use lib.Dec.{eqb}
+use lib.Dec.{eqb, ltb}
 use lib.ListN.{getD, set}
 use Rattle.lists.specs.Lists.{member}
 
@@ -27,6 +27,10 @@ withByte s x = set s (x / 64) (bitOr (getD s (x / 64) 0) (2 ^ (x % 64)))
 -- The set has the members of the list, and no others.
 abbrev pub Holds : List ℕ → List ℕ → Type 0
 Holds s m = (y : ℕ) → hasByte s y ≡ member y m
+
+-- A search from `start` on passes over byte x: it is in the set or below `start`.
+abbrev pub passesOver : (start : ℕ) → List ℕ → ℕ → Bool
+passesOver start s x = hasByte s x || ltb x start
 
 -- r is the lowest number below n at which the test fails, or n where it fails at none.
 abbrev pub LowestFailing : (ℕ → Bool) → ℕ → ℕ → Type 0

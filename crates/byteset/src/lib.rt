@@ -5,7 +5,7 @@ ghost use mathlib.Core.Path.{_≡_};
 ghost use mathlib.Core.Bool.{not};
 ghost use Prim.Native.Nat.{_/_, _%_, _^_, _<_};
 ghost use lib.ListN.{length};
-ghost use Rattle.byteset.specs.Set.{hasBit, hasByte, withByte, LowestFailing};
+ghost use Rattle.byteset.specs.Set.{hasBit, hasByte, withByte, passesOver, LowestFailing};
 
 // The word that has only the bit of number x.
 fn mask(x: usize) -> u64
@@ -70,22 +70,25 @@ fn low_ones(w: u64) -> u8
     u64::trailing_zeros(!w) as u8
 }
 
-// The lowest byte below n that is not in the set, or n where all are: the lowest clear bit of the first word that has one.
-pub fn lowest_missing(seen: &[u64; 4], n: u8) -> u8
+// The lowest byte from `start` on and below n that is not in the set, or n where there is none: the lowest clear bit of the
+// first word that has one, with the bits before `start` taken as set. Ruled out: a byte before `start`; a search that begins
+// in a later word (`must-fail/start_in_a_later_word`).
+pub fn lowest_missing(seen: &[u64; 4], start: usize, n: u8) -> u8
     requires { ⌜ length (now seen) ≡ 4 ⌝ }
-    ensures { λ r. ⌜ LowestFailing (hasByte (now (seen .entry))) n r ⌝ }
+    ensures { λ r. ⌜ LowestFailing (passesOver start (now (seen .entry))) n r ⌝ }
 {
-    let mut i: u8 = 0;
+    let mut before = mask(start) - 1;
+    let mut i = start / 64;
     while i < 4 {
-        let at = wide(i);
-        let ones = low_ones(seen[at]);
+        let ones = low_ones(seen[i] | before);
         if ones < 64 {
-            let r = 64 * i + ones;
-            if r < n {
-                return r;
+            let r = 64 * i + wide(ones);
+            if r < wide(n) {
+                return r as u8;
             }
             return n;
         }
+        before = 0;
         i += 1;
     }
     n

@@ -1,4 +1,4 @@
--- What the tests of write answer, by what the searches found: the first of the free slots, or none.
+-- What the tests of write answer, by what the searches found: the first of the slots tried, or none.
 use mathlib.Core.Path.{_≡_, sym}
 use mathlib.Core.Bool.{true, not}
 use mathlib.Core.Option.{Option}

@@ -18,7 +18,7 @@ writeFound (Refused r) = refusedBy (refusalNumber r)
 writeFound (Again r) = again r
 writeFound (New r) = new r
 
--- The answer by the number that the tests give, the entry that the record has for the page, and the lowest free slot.
+-- The answer by the number that the tests give, the entry that the record has for the page, and the slot that is chosen.
 abbrev pub answerBy : ℕ → Option Entry → ℕ → WriteAnswer
 answerBy zero (some e) r = again (e .slot)
 answerBy zero none r = new r

@@ -13,24 +13,23 @@ ghost use mathlib.Core.Path.{_≡_};
 ghost use mathlib.Core.Bool.{true};
 ghost use mathlib.Core.List.{[], _∷_};
 ghost use mathlib.Core.Option.{none};
-ghost use lib.ListN.{getD};
 ghost use Rattle.lists.specs.Lists.{first};
 ghost use Rattle.sector.specs.Contents.{Table};
-ghost use Rattle.volume.specs.Places.{IsClient, IsFile};
+ghost use Rattle.volume.specs.Places.{IsClient, IsPage};
 ghost use Rattle.volume.specs.Views.{View};
 ghost use Rattle.volume.specs.Volumes.{view};
 ghost use Rattle.volume.specs.Sound.{sound};
 ghost use Rattle.volume.specs.WellFormed.{WellFormed};
-ghost use Rattle.rules.specs.Plans.{write, freeSlots};
+ghost use Rattle.rules.specs.Plans.{write, chosen};
 ghost use Rattle.rules.specs.Refusals.{isNewPage, noFreeSlot, recordFull, slotTests, tests};
 ghost use Rattle.checks.specs.Writes.{writeFound, answerBy, writeAnswer};
 
 // Tests 11 and 12 of a page that record k has no entry for: file f has a free slot, and the record has room.
-fn new_slot(v: &[u8], k: u8, f: u8) -> WriteVerdict
-    requires { ⌜ WellFormed (now v) × IsClient (view (now v) .table) k × IsFile (view (now v) .table) f ⌝ }
-    ensures { λ r. ⌜ writeFound r ≡ answerBy (first (noFreeSlot true (view (now (v .entry))) k f ∷ recordFull true (view (now (v .entry))) k ∷ [])) none (getD (freeSlots (view (now (v .entry))) k f) 0 0) ⌝ }
+fn new_slot(v: &[u8], k: u8, f: u8, p: u8) -> WriteVerdict
+    requires { ⌜ WellFormed (now v) × IsClient (view (now v) .table) k × IsPage (view (now v) .table) f p ⌝ }
+    ensures { λ r. ⌜ writeFound r ≡ answerBy (first (noFreeSlot true (view (now (v .entry))) k f ∷ recordFull true (view (now (v .entry))) k ∷ [])) none (chosen (view (now (v .entry))) k f p) ⌝ }
 {
-    match free_slot(v, k, f) {
+    match free_slot(v, k, f, p) {
         Found::Nothing => WriteVerdict::Refused(Refusal::NoFreeSlot),
         Found::Slot(r) => {
             if sector::wide(volume::entry_count(v, k)) == Limits::ENTRIES {
@@ -43,7 +42,7 @@ fn new_slot(v: &[u8], k: u8, f: u8) -> WriteVerdict
 
 // Tests 10 to 12: the page has its length, and record k has an entry for it or can take one.
 fn check_slot(v: &[u8], k: u8, f: u8, p: u8, bytes: &[u8]) -> WriteVerdict
-    requires { ⌜ WellFormed (now v) × IsClient (view (now v) .table) k × IsFile (view (now v) .table) f ⌝ }
+    requires { ⌜ WellFormed (now v) × IsClient (view (now v) .table) k × IsPage (view (now v) .table) f p ⌝ }
     ensures { λ r. ⌜ writeFound r ≡ writeAnswer (first (slotTests (isNewPage (view (now (v .entry))) k f p) (view (now (v .entry))) k f (now (bytes .entry)))) (view (now (v .entry))) k f p ⌝ }
 {
     if bytes.len() != Sector::SIZE {
@@ -51,7 +50,7 @@ fn check_slot(v: &[u8], k: u8, f: u8, p: u8, bytes: &[u8]) -> WriteVerdict
     }
     match find_entry(v, k, f, p) {
         Found::Slot(r) => WriteVerdict::Again(r),
-        Found::Nothing => new_slot(v, k, f),
+        Found::Nothing => new_slot(v, k, f, p),
     }
 }
 

@@ -14,7 +14,7 @@ use lib.Dec.{eqb, leb}
 use lib.ListN.{length, getD, set, drop, drop-of-length-le, getElem?}
 use Rattle.lists.specs.Lists.{if_then_else_, first, every, any, filter, find, distinct, member, from}
 use Rattle.lists.proofs.ListLaws.{and-left, and-right, and-both, or-none, no-both}
-use Rattle.lists.proofs.CaseLaws.{by-equal}
+use Rattle.lists.proofs.CaseLaws.{by-equal, if-test}
 
 -- ------------------------------------------------------------------ two tests
 pub or-true : (a b : Bool) → b ≡ true → (a || b) ≡ true
@@ -88,10 +88,26 @@ module _ {A : Type 0} where
       go ih false true e d = let k : z ≡ y = cc in no-both _ (find-any t (r z) zs x e (rw k q)) away
       go ih false false e d = ih e d
 
+  -- ------------------------------------------------------------------ two tests, two lists
+  pub every-append : (t : A → Bool) (xs ys : List A) → every t xs ≡ true → every t ys ≡ true → every t (xs ++ ys) ≡ true
+  every-append t [] ys e d = d
+  every-append t (x ∷ xs) ys e d = and-both (t x) _ (and-left (t x) _ e) (every-append t xs ys (and-right (t x) _ e) d)
+
+  pub filter-both : (q t : A → Bool) (xs : List A) → filter q (filter t xs) ≡ filter (λ x. q x && t x) xs
+  filter-both q t [] = refl
+  filter-both q t (x ∷ xs) = go (filter-both q t xs) (q x) refl (t x)
+    where
+      go : filter q (filter t xs) ≡ filter (λ y. q y && t y) xs → (b : Bool) → q x ≡ b → (c : Bool)
+          → filter q (if c then x ∷ filter t xs else filter t xs)
+          ≡ (if b && c then x ∷ filter (λ y. q y && t y) xs else filter (λ y. q y && t y) xs)
+      go ih true e true = rw e (ap (λ (l : List A). x ∷ l) ih)
+      go ih false e true = rw e ih
+      go ih true e false = ih
+      go ih false e false = ih
+
   -- ------------------------------------------------------------------ one element more
   pub every-end : (t : A → Bool) (xs : List A) (x : A) → every t xs ≡ true → t x ≡ true → every t (xs ++ (x ∷ [])) ≡ true
-  every-end t [] x e h = and-both (t x) true h refl
-  every-end t (y ∷ ys) x e h = and-both (t y) _ (and-left (t y) _ e) (every-end t ys x (and-right (t y) _ e) h)
+  every-end t xs x e h = every-append t xs (x ∷ []) e (and-both (t x) true h refl)
 
   any-end : (t : A → Bool) (xs : List A) (x : A) → any t xs ≡ false → t x ≡ false → any t (xs ++ (x ∷ [])) ≡ false
   any-end t [] x e h = or-false (t x) false h refl
@@ -261,6 +277,13 @@ module _ (t : ℕ → Bool) where
       (λ q. rw (q, e) (ap (λ (l : List ℕ). j ∷ l) (filter-none n (suc j) (λ i l u. h i (omega arith) (omega arith) (omega arith)))))
       (λ q. rw (h a (omega arith) (omega arith) q)
       (filter-one n (suc a) j (omega arith) (omega arith) e (λ i l u. h i (omega arith) (omega arith))))
+
+  -- The first is the lowest.
+  pub filter-least : (n a i : ℕ) → a ≤ i → i < a + n → t i ≡ true → getD (filter t (from a n)) 0 0 ≤ i
+  filter-least zero a i lo hi e = absurd (not-suc-le-zero {n = 0} (omega arith))
+  filter-least (suc n) a i lo hi e = if-test (λ (l : List ℕ). getD l 0 0 ≤ i) (t a) (a ∷ filter t (from (suc a) n)) (filter t (from (suc a) n))
+      (λ q. lo)
+      (λ q. by-equal a i (λ z. no-both (t i) e (rw z at q)) (λ z. filter-least n (suc a) i (omega arith) (omega arith) e))
 
   pub filter-first : (m n a r : ℕ) → r ≡ a + m → ((y : ℕ) → a ≤ y → y < r → t y ≡ false) → t r ≡ true
       → getElem? (filter t (from a (m + suc n))) 0 ≡ some r

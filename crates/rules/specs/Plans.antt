@@ -2,8 +2,8 @@
 use mathlib.Core.Bool.{Bool, true, false, not, _&&_}
 use mathlib.Core.List.{List, [], _∷_, _++_}
 use mathlib.Core.Option.{Option, none, some}
-use Prim.Native.Nat.{ℕ}
-use lib.Dec.{eqb}
+use Prim.Native.Nat.{ℕ, _+_}
+use lib.Dec.{eqb, leb, ltb}
 use lib.ListN.{getD}
 use Rattle.interface.specs.declared.Session.{Session}
 use Rattle.lists.specs.Lists.{if_then_else_, any, filter, find, member, from}
@@ -31,20 +31,34 @@ pub data Query : Type 0 where
 abbrev pub entryFor : View → ℕ → ℕ → ℕ → Option Entry
 entryFor a k f p = find (forPage f p) (a .records k .entries)
 
--- The slots of f that are "neither in its map nor given for f in record k", rising.
-unfoldable pub freeSlots : View → ℕ → ℕ → List ℕ
-freeSlots a k f = filter
-    (λ r. not (member r (a .headers f .map)) && not (any (givesSlot f r) (a .records k .entries)))
-    (from 0 (fileAt (a .table) f .slots))
+-- The slot that the map of f gives for page p.
+abbrev pub mappedSlot : View → ℕ → ℕ → ℕ
+mappedSlot a f p = getD (a .headers f .map) p 0
 
--- "the lowest real of f" of those: the slot that a new entry for page p takes.
+-- Slot r is "neither in its map nor given for f in record k".
+abbrev pub isFree : View → ℕ → ℕ → ℕ → Bool
+isFree a k f r = not (member r (a .headers f .map)) && not (any (givesSlot f r) (a .records k .entries))
+
+-- The slots of f that are free for client k, rising.
+unfoldable pub freeSlots : View → ℕ → ℕ → List ℕ
+freeSlots a k f = filter (isFree a k f) (from 0 (fileAt (a .table) f .slots))
+
+-- "above the one the map gives for the page": where the search for a slot of a new page starts.
+abbrev pub startFor : View → ℕ → ℕ → ℕ
+startFor a f p = mappedSlot a f p + 1
+
+-- These slots in the order in which they are tried: from `start` on, "and from 0 again after R − 1".
+abbrev pub triedFrom : (start : ℕ) → List ℕ → List ℕ
+triedFrom start l = filter (leb start) l ++ filter (λ r. ltb r start) l
+
+-- "the first suitable real": the slot that a new entry for page p takes.
 unfoldable pub chosen : View → ℕ → ℕ → ℕ → ℕ
-chosen a k f p = getD (freeSlots a k f) 0 0
+chosen a k f p = getD (triedFrom (startFor a f p) (freeSlots a k f)) 0 0
 
 -- Where a read finds the page: the slot "that (f, p) has in record k, else by the map".
 abbrev pub slotFor : View → ℕ → ℕ → Option Entry → ℕ
 slotFor a f p (some e) = e .slot
-slotFor a f p none = getD (a .headers f .map) p 0
+slotFor a f p none = mappedSlot a f p
 
 -- ------------------------------------------------------------------ the stores of each call
 -- "recover k if interrupted; store record k open, C = 0"
@@ -68,7 +82,7 @@ openPlan a s k f =
     then recovery redo a holder ++ (setHeader f (record { holder = k; map = mapAfter redo a holder f }) ∷ [])
     else setHeader f (record { holder = k; map = a .headers f .map }) ∷ []
 
--- "if record k has (f, p), store the page in that real sector. Else take the lowest real ..; store the page there; store
+-- "if record k has (f, p), store the page in that real sector. Else take" the slot chosen for it; "store the page there; store
 -- record k with the entry appended."
 abbrev pub writePlan : View → ℕ → ℕ → ℕ → Bytes → Option Entry → List Update
 writePlan a k f p d (some e) = setSlot f (e .slot) d ∷ []

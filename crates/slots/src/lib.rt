@@ -1,4 +1,4 @@
-// Where a page lies: the slot that the client's record has for it, else by the map; and the lowest slot of a file that is free.
+// Where a page lies: the slot that the client's record has for it, else by the map; and the free slot that a new page takes.
 use byteset::add;
 use byteset::lowest_missing;
 ghost use mathlib.Core.Path.{_≡_};
@@ -13,7 +13,7 @@ ghost use Rattle.volume.specs.Views.{View};
 ghost use Rattle.volume.specs.Volumes.{view};
 ghost use Rattle.volume.specs.WellFormed.{WellFormed, HasEntry, noEntry};
 ghost use Rattle.byteset.specs.Set.{hasByte};
-ghost use Rattle.rules.specs.Plans.{entryFor, freeSlots, slotFor};
+ghost use Rattle.rules.specs.Plans.{entryFor, freeSlots, startFor, triedFrom, slotFor};
 ghost use Rattle.slots.specs.Slots.{slotOf, entrySlot};
 
 // What a search for a slot found.
@@ -85,19 +85,26 @@ fn take_given(v: &[u8], k: u8, f: u8, taken: &mut [u64; 4])
     }
 }
 
-// The lowest slot of file f that is neither in its map nor given for it in record k. Ruled out: a choice by the map
-// alone, so that two pages of one transaction share a slot (`must-fail/free_by_map_alone`).
-pub fn free_slot(v: &[u8], k: u8, f: u8) -> Found
-    requires { ⌜ WellFormed (now v) × IsClient (view (now v) .table) k × IsFile (view (now v) .table) f ⌝ }
-    ensures { λ r. ⌜ slotOf r ≡ getElem? (freeSlots (view (now (v .entry))) k f) 0 ⌝ }
+// The slot for page p of file f, which record k has no entry for: the first above the one that the map gives for p, and from 0
+// again after the last, that is neither in the map nor given for f in record k. Ruled out: a choice by the map alone, so that
+// two pages of one transaction share a slot (`must-fail/free_by_map_alone`); the lowest free slot, another start, or no going
+// round (`must-fail/lowest_slot`, `two_above`, `above_another_page`, `not_round`).
+pub fn free_slot(v: &[u8], k: u8, f: u8, p: u8) -> Found
+    requires { ⌜ WellFormed (now v) × IsClient (view (now v) .table) k × IsPage (view (now v) .table) f p ⌝ }
+    ensures { λ r. ⌜ slotOf r ≡ getElem? (triedFrom (startFor (view (now (v .entry))) f p) (freeSlots (view (now (v .entry))) k f)) 0 ⌝ }
 {
     let mut taken = [0u64; 4];
     take_mapped(v, f, &mut taken);
     take_given(v, k, f, &mut taken);
     let n = volume::slots(v, f);
-    let r = lowest_missing(&taken, n);
-    if r < n {
-        return Found::Slot(r);
+    let start = sector::wide(volume::mapped_slot(v, f, p)) + 1;
+    let above = lowest_missing(&taken, start, n);
+    if above < n {
+        return Found::Slot(above);
+    }
+    let again = lowest_missing(&taken, 0, n);
+    if again < n {
+        return Found::Slot(again);
     }
     Found::Nothing
 }

@@ -17,13 +17,14 @@ pub fn run(world: &mut World, random: Random) -> Check {
     world.shared().count(tally::RUNS);
     world.reset();
     let mut run = Run { world, random, layout: Layout::default() };
-    match run.random.below(20) {
+    match run.random.below(21) {
         0 => run.layouts(),
         1..=9 => run.calls_against_book(),
         10 => run.full_record(),
         11..=14 => run.calls_with_foreign_sessions(),
         15..=18 => run.crafted(),
-        _ => run.damaged(),
+        19 => run.damaged(),
+        _ => run.rewrites(),
     }
 }
 
@@ -99,6 +100,46 @@ impl Run<'_> {
             self.step()?;
         }
         Ok(())
+    }
+
+    /// A few pages of one file in transaction after transaction, until they
+    /// have gone round its reals.
+    fn rewrites(&mut self) -> Check {
+        let shape = if self.random.chance(40) { self.small_shape() } else { self.one_file() };
+        self.lay_out(shape)?;
+        let client = self.random.between(1, self.layout.clients);
+        let Some(file) = self.random.pick(&self.layout.files) else { return Ok(()) };
+        let mut pages: Vec<u8> = (0..file.pages).collect();
+        self.random.shuffle(&mut pages);
+        pages.truncate(1 + self.random.below(4));
+        let once_round = usize::from(file.reals - file.pages) / pages.len();
+        for _ in 0..once_round + 8 {
+            self.rewrite(client, file.number, &mut pages)?;
+            if self.random.chance(10) {
+                self.step()?;
+            }
+        }
+        Ok(())
+    }
+
+    /// One transaction that writes the pages, in any order.
+    fn rewrite(&mut self, client: u8, file: u8, pages: &mut [u8]) -> Check {
+        // A crash, if a step has left a transaction running.
+        if self.world.session() != 0 {
+            self.world.play(&Line::Session(0))?;
+        }
+        self.call(Call::Begin { client, budget: 255 })?;
+        self.call(Call::Open { client, file, budget: 255 })?;
+        self.random.shuffle(pages);
+        for &page in &*pages {
+            let data = data(self.random.byte(), SECTOR_SIZE);
+            self.call(Call::Write { client, file, page, data, budget: 255 })?;
+        }
+        let commit = Call::Commit { client, budget: 255 };
+        if self.random.chance(5) {
+            self.sweep(commit)?;
+        }
+        self.call(commit)
     }
 
     /// Calls with sessions that no call handed back.
@@ -195,6 +236,18 @@ impl Run<'_> {
 
     fn small_shape(&mut self) -> Shape {
         self.shape_of(4, 4, 4)
+    }
+
+    /// One file, with a few spare reals or with all that it can have.
+    fn one_file(&mut self) -> Shape {
+        let clients = self.random.between(1, MAX_CLIENTS as u8);
+        let pages = self.random.between(1, MAX_PAGES);
+        let reals = match self.random.below(3) {
+            0 => pages + self.random.between(0, 8),
+            1 => pages + self.random.between(0, 40),
+            _ => MAX_REALS,
+        };
+        (clients, vec![pages, reals])
     }
 
     /// At most so many files and pages, and at most `more` reals above the

@@ -422,20 +422,27 @@ struct Found<'a> {
 }
 
 impl Found<'_> {
-    /// The sector that shows the page to the client.
-    fn sector(&self) -> usize {
-        let mapped = || self.sectors[self.file.header][BODY + usize::from(self.page)];
-        self.file.sector_of(self.given.unwrap_or_else(mapped))
+    /// The real that the map gives for the page.
+    fn mapped(&self) -> u8 {
+        self.sectors[self.file.header][BODY + usize::from(self.page)]
     }
 
-    /// The lowest real of the file that is neither mapped nor given.
+    /// The sector that shows the page to the client.
+    fn sector(&self) -> usize {
+        self.file.sector_of(self.given.unwrap_or_else(|| self.mapped()))
+    }
+
+    /// The first real above the one mapped for the page, and from 0 again
+    /// after the last, that is neither mapped nor given for the file.
     fn free_real(&self) -> Option<u8> {
         let map = &self.sectors[self.file.header][BODY..][..usize::from(self.file.pages)];
         let mut used = RealSet::default();
         for real in map.iter().copied().chain(self.record.reals_of(self.number)) {
             used.insert(real);
         }
-        used.lowest_absent().filter(|&real| real < self.file.reals)
+        let from = |start| used.lowest_absent(start).filter(|&real| real < self.file.reals);
+        // The real mapped is below 240, so the sum fits.
+        from(self.mapped() + 1).or_else(|| from(0))
     }
 }
 
@@ -680,9 +687,19 @@ impl RealSet {
         self.0[index] & bit != 0
     }
 
-    fn lowest_absent(&self) -> Option<u8> {
-        let index = self.0.iter().position(|&bits| bits != u32::MAX)?;
-        Some((32 * index as u32 + self.0[index].trailing_ones()) as u8)
+    /// The lowest absent real from `start` on.
+    fn lowest_absent(&self, start: u8) -> Option<u8> {
+        let (first, bit) = RealSet::place(start);
+        // In the first word, the bits below the start's count as present.
+        let mut below = bit - 1;
+        for (index, &bits) in self.0.iter().enumerate().skip(first) {
+            let bits = bits | below;
+            if bits != u32::MAX {
+                return Some((32 * index as u32 + bits.trailing_ones()) as u8);
+            }
+            below = 0;
+        }
+        None
     }
 
     fn place(real: u8) -> (usize, u32) {

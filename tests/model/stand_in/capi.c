@@ -17,7 +17,12 @@
  *  13 open stores the map from before the recovery
  *  14 the last byte of a header isn't tested
  *  15 one byte before the volume is read
- *  16 a call never ends when the record is full
+ *  16 the lowest free real is chosen
+ *  17 the search for a free real begins two above the page's
+ *  18 the search doesn't go round
+ *  19 the search begins above page 0's real
+ *  20 the search begins above the next page's real
+ *  21 a call never ends when the record is full
  */
 #include <stddef.h>
 #include <stdint.h>
@@ -346,6 +351,33 @@ uint64_t vol_read(const uint8_t *volume, size_t len, uint8_t session, uint8_t cl
 	return reply(SECTOR, 0, header + 1 + real);
 }
 
+/* Where the search for a free real begins. */
+static int start_of(const uint8_t *map, int pages, int page)
+{
+	switch (MISSTEP) {
+	case 16:
+		return 0;
+	case 17:
+		return map[page] + 2;
+	case 19:
+		return map[0] + 1;
+	case 20:
+		return map[(page + 1) % pages] + 1;
+	default:
+		return map[page] + 1;
+	}
+}
+
+/* The first real from the start on, round past the last, that isn't used; -1 if there is none. */
+static int free_real(const char *used, int reals, int start)
+{
+	int tries = MISSTEP == 18 ? reals - start : reals;
+	for (int i = 0; i < tries; i++)
+		if (!used[(start + i) % reals])
+			return (start + i) % reals;
+	return -1;
+}
+
 uint64_t vol_write(uint8_t *volume, size_t len, uint8_t session, uint8_t client, uint8_t file, uint8_t page,
 		   const uint8_t *bytes, size_t bytes_len, uint8_t budget)
 {
@@ -358,7 +390,7 @@ uint64_t vol_write(uint8_t *volume, size_t len, uint8_t session, uint8_t client,
 	const uint8_t *h = volume + 256 * (size_t)header, *r = volume + 256 * client;
 	const uint8_t *e = entry_of(volume, file);
 	int real = given(r, file, page), fresh = real < 0;
-	while (MISSTEP == 16 && fresh && r[3] == 62)
+	while (MISSTEP == 21 && fresh && r[3] == 62)
 		__asm__ volatile("");
 	if (fresh) {
 		char used[256] = {0};
@@ -367,11 +399,10 @@ uint64_t vol_write(uint8_t *volume, size_t len, uint8_t session, uint8_t client,
 		for (int i = 0; i < r[3] && MISSTEP != 4; i++)
 			if (r[8 + 4 * i] == file)
 				used[r[8 + 4 * i + 2]] = 1;
-		for (real = 0; real < e[3] && used[real]; real++)
-			;
+		real = free_real(used, e[3], start_of(h + 8, e[2], page));
 		if (MISSTEP == 6 && r[3] == 62)
 			return reply(REFUSED, session, 12);
-		if (real == e[3])
+		if (real < 0)
 			return reply(REFUSED, session, 11);
 		if (r[3] == 62)
 			return reply(REFUSED, session, 12);

@@ -20,10 +20,11 @@ fn output_of(script: &[u8]) -> String {
 #[test]
 fn examples() {
     let folder = Path::new(env!("CARGO_MANIFEST_DIR")).join("../../examples/scripts");
-    for number in 1..=11 {
-        let script = fs::read(folder.join(format!("e{number}.txt"))).unwrap();
-        let expected = fs::read_to_string(folder.join(format!("e{number}.out"))).unwrap();
-        assert_eq!(output_of(&script), expected, "e{number}");
+    let names = (1..=11).map(|number| format!("e{number}")).chain(["rewrites".to_string()]);
+    for name in names {
+        let script = fs::read(folder.join(format!("{name}.txt"))).unwrap();
+        let expected = fs::read_to_string(folder.join(format!("{name}.out"))).unwrap();
+        assert_eq!(output_of(&script), expected, "{name}");
     }
 }
 

@@ -78,7 +78,7 @@ fn listed(volume: &[u8]) -> Vec<u8> {
 
 // -------------------------------------------------------------- the scripts
 
-/// Scripts of up to forty lines, and scripts of 65,535 to 65,537 bytes.
+/// Scripts of up to 65 lines, and scripts of 65,535 to 65,537 bytes.
 fn scripts(random: &mut Random, count: usize) -> impl Iterator<Item = Vec<u8>> + '_ {
     let longest = [MAX_INPUT - 1, MAX_INPUT, MAX_INPUT + 1].map(|length| {
         let mut script = vec![b'#'; length];
@@ -88,8 +88,14 @@ fn scripts(random: &mut Random, count: usize) -> impl Iterator<Item = Vec<u8>> +
     longest.into_iter().chain((0..count).map(|_| script(random)))
 }
 
+/// A transaction that writes a page, which goes on to the next free real.
+const REWRITE: &str = "begin 1\nopen 1 2\nwrite 1 2 0 7 256\nread 1 2 0\ncommit 1\n";
+
 fn script(random: &mut Random) -> Vec<u8> {
     let mut text = String::from("format 2816 2 2 3 1 3\n");
+    if random.chance(30) {
+        text += &REWRITE.repeat(random.below(6));
+    }
     for _ in 0..random.below(40) {
         text += &line(random);
         text.push('\n');

@@ -4,7 +4,6 @@ use borrow.Author.Needs.{needs}
 use borrow.Author.Tests.{eq-eqb, ne-eqb}
 use Rattle.lists.specs.Lists.{first}
 use Rattle.volume.specs.Volumes.{view}
-use Rattle.rules.specs.Plans.{chosen}
 use Rattle.slots.specs.Slots.{slotOf}
 use Rattle.slots.proofs.SlotLaws.{entry-at, no-entry}
 use Rattle.checks.specs.Writes.{again}
@@ -26,7 +25,7 @@ returns-2 c =
     ∙ rw (eq-eqb _ 256 (q .before .if1 .left)) (ap again (e .slot)))
 
 returns-3 : tie.Need-returns-3
-unfolding first chosen
+unfolding first
 returns-3 c =
     let q = c .before .before .before in
     let s = q .before .before .before .before in

@@ -11,8 +11,7 @@ check-slot-requires : tie.Need-check-slot-requires
 check-slot-requires c κs =
     let q = c .before .before in
     let s = q .before .before .before in
-    let formed = read-formed (s .args .v .now) (s .args .s) (s .args .k) (s .args .f) (s .args .p) (accepted _ (c .enum-told .given .1) (q .check-read .ensures)) in
-    (formed .0, formed .1, formed .2 .file)
+    read-formed (s .args .v .now) (s .args .s) (s .args .k) (s .args .f) (s .args .p) (accepted _ (c .enum-told .given .1) (q .check-read .ensures))
 
 returns : tie.Need-returns
 unfolding tests queryTests

@@ -8,9 +8,8 @@ use Rattle.sector.specs.Contents.{Record}
 use Rattle.volume.specs.Views.{View}
 use Rattle.slots.specs.Slots.{slotOf}
 use Rattle.volume.specs.Volumes.{view}
-use Rattle.rules.specs.Plans.{freeSlots}
+use Rattle.rules.proofs.ChoiceLaws.{none-chosen, some-chosen}
 use Rattle.checks.specs.Writes.{new}
-use Rattle.lists.proofs.SearchLaws.{none-first, some-first}
 use Rattle.checks.proofs.write.new_slot.Statement.{statement}
 use Rattle.checks.proofs.write.new_slot.Tie as tie
 
@@ -20,12 +19,17 @@ returns c =
     let n = c .before in
     let r = n .before .before .before in
     let q = r .before .before in
+    let s = q .before .before in
     let count = n .wide .ensures .0 ∙ n .before .entry-count .ensures .0 in
-    rw (some-first _ _ (ap slotOf (sym (r .r .given .1)) ∙ q .free-slot .ensures) .0, eq-eqb _ 62 (sym count ∙ c .if1 .taken))
+    let slot = some-chosen (view (s .args .v .now)) (s .args .k) (s .args .f) (s .args .p) _ (ap slotOf (sym (r .r .given .1)) ∙ q .free-slot .ensures) in
+    rw (slot .0, eq-eqb _ 62 (sym count ∙ c .if1 .taken))
 
 returns-2 : tie.Need-returns-2
 unfolding first
-returns-2 c = rw (none-first _ (ap slotOf (sym (c .enum-told .given .1)) ∙ c .before .before .free-slot .ensures))
+returns-2 c =
+    let q = c .before .before in
+    let s = q .before .before in
+    rw (none-chosen (view (s .args .v .now)) (s .args .k) (s .args .f) (s .args .p) (ap slotOf (sym (c .enum-told .given .1)) ∙ q .free-slot .ensures))
 
 returns-3 : tie.Need-returns-3
 unfolding first
@@ -35,7 +39,7 @@ returns-3 c =
     let q = r .before .before in
     let s = q .before .before in
     let count = n .wide .ensures .0 ∙ n .before .entry-count .ensures .0 in
-    let slot = some-first (freeSlots (view (s .args .v .now)) (s .args .k) (s .args .f)) _ (ap slotOf (sym (r .r .given .1)) ∙ q .free-slot .ensures) in
+    let slot = some-chosen (view (s .args .v .now)) (s .args .k) (s .args .f) (s .args .p) _ (ap slotOf (sym (r .r .given .1)) ∙ q .free-slot .ensures) in
     rw (slot .0, ne-eqb (length (view (s .args .v .now) .records (s .args .k) .entries)) 62 (λ e. c .if1 .left (count ∙ e))) (ap new (slot .1))
 
 pub new-slot-spec : {M : Type 1} → statement M
