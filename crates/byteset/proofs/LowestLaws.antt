@@ -13,7 +13,7 @@ use lib.Dec.{eqb, ltb}
 use lib.ListN.{getD}
 use lib.Pow.{pow-pos}
 use Rattle.lists.proofs.CaseLaws.{by-test}
-use Rattle.lists.proofs.TestLaws.{iff}
+use Rattle.lists.proofs.TestLaws.{ltb-same}
 use Rattle.byteset.specs.Set.{hasByte, hasBit, passesOver, LowestFailing}
 use Rattle.byteset.proofs.SetLaws.{bit-or}
 
@@ -56,9 +56,6 @@ ones-below (suc k) w h =
     rw (half, low) (ones-turn k w _ (w % 2) (omega arith) refl (ones-below k (w / 2) less))
 
 -- ------------------------------------------------------------------ the bits before a start
-lt-alike : (a b c d : ℕ) → (a < b → c < d) → (c < d → a < b) → ltb a b ≡ ltb c d
-lt-alike a b c d to back = iff _ _ (λ e. lt-ltb c d (to (ltb-true a b e))) (λ e. lt-ltb a b (back (ltb-true c d e)))
-
 -- The word 2 ^ k - 1 has the bits below k.
 bits-below : (k j : ℕ) → hasBit (2 ^ k - 1) j ≡ ltb j k
 bits-below zero j = rw (and-zero-l (2 ^ j)) (sym (le-ltb j 0 zero-le))
@@ -69,12 +66,12 @@ bits-below (suc k) zero =
 bits-below (suc k) (suc j) =
     let p : 2 ^ suc k ≡ 2 ^ k * 2 = pow-suc 2 k in
     let half : (2 ^ suc k - 1) / 2 ≡ 2 ^ k - 1 = omega (arith, p, pow-pos k) in
-    bit-half (2 ^ suc k - 1) j ∙ rw half (bits-below k j ∙ lt-alike j k (suc j) (suc k) (λ h. omega arith) (λ h. omega arith))
+    bit-half (2 ^ suc k - 1) j ∙ rw half (bits-below k j ∙ ltb-same j k (suc j) (suc k) (λ h. omega arith) (λ h. omega arith))
 
 -- In the word of `start` they are the bytes before it.
 pub start-bits : (start j : ℕ) → hasBit (2 ^ (start % 64) - 1) j ≡ ltb (64 * (start / 64) + j) start
 start-bits start j =
-    bits-below (start % 64) j ∙ lt-alike j (start % 64) (64 * (start / 64) + j) start (λ h. omega arith) (λ h. omega arith)
+    bits-below (start % 64) j ∙ ltb-same j (start % 64) (64 * (start / 64) + j) start (λ h. omega arith) (λ h. omega arith)
 
 -- All bytes below the word with index i are passed over. Of this word b has the bits below the start, and with them the n lowest
 -- are set.

@@ -198,6 +198,10 @@ pub some-first : (xs : List ℕ) (r : ℕ) → some r ≡ getElem? xs 0 → (eqb
 some-first [] r e = none-some r (sym e)
 some-first (x ∷ xs) r e = (ne-eqb (suc (length xs)) 0 (λ (q : suc (length xs) ≡ 0). omega arith), cc)
 
+pub first-append : (xs ys : List ℕ) (r : ℕ) → getElem? xs 0 ≡ some r → getElem? (xs ++ ys) 0 ≡ some r
+first-append [] ys r e = none-some r e
+first-append (x ∷ xs) ys r e = e
+
 -- A list with a member isn't empty.
 pub member-some : (i : ℕ) (xs : List ℕ) → member i xs ≡ true → eqb (length xs) 0 ≡ false
 member-some i [] e = absurd (false≢true e)
@@ -285,12 +289,10 @@ module _ (t : ℕ → Bool) where
       (λ q. lo)
       (λ q. by-equal a i (λ z. no-both (t i) e (rw z at q)) (λ z. filter-least n (suc a) i (omega arith) (omega arith) e))
 
-  pub filter-first : (m n a r : ℕ) → r ≡ a + m → ((y : ℕ) → a ≤ y → y < r → t y ≡ false) → t r ≡ true
-      → getElem? (filter t (from a (m + suc n))) 0 ≡ some r
-  filter-first zero n a r z h e =
-      let q : r ≡ a = omega arith in
-      let y : 0 + suc n ≡ suc n = omega arith in
-      rw (y, ← q, e)
-  filter-first (suc m) n a r z h e =
-      let y : suc m + suc n ≡ suc (m + suc n) = omega arith in
-      rw (y, h a (omega arith) (omega arith)) (filter-first m n (suc a) r (omega arith) (λ y lo hi. h y (omega arith) hi) e)
+  pub filter-first : (n a r : ℕ) → a ≤ r → r < a + n → ((y : ℕ) → a ≤ y → y < r → t y ≡ false) → t r ≡ true
+      → getElem? (filter t (from a n)) 0 ≡ some r
+  filter-first zero a r lo hi h e = absurd (not-suc-le-zero {n = 0} (omega arith))
+  filter-first (suc n) a r lo hi h e = by-equal a r
+      (λ q. rw (q, e))
+      (λ q. rw (h a (omega arith) (omega arith))
+      (filter-first n (suc a) r (omega arith) (omega arith) (λ y l u. h y (omega arith) u) e))

@@ -7,9 +7,9 @@ use mathlib.Core.List.{List, [], _∷_}
 use Prim.Native.Nat.{ℕ, zero, suc, _+_, _-_, _<_, _≤_}
 use native.Mathlib.Numerals.{add-one}
 use native.Mathlib.Omega.{arith}
-use borrow.Author.Tests.{eqb-true, eq-eqb}
+use borrow.Author.Tests.{eqb-true, eq-eqb, ltb-true, lt-ltb}
 use lib.Bits.{bitOr, or-add-and, and-le-l, and-le-r}
-use lib.Dec.{eqb}
+use lib.Dec.{eqb, ltb}
 use lib.ListN.{length, getD, drop, drop-of-length-le}
 use lib.Seq.{drop-cons}
 use Rattle.lists.specs.Lists.{all, every, any, from}
@@ -21,6 +21,9 @@ pub iff : (a b : Bool) → (a ≡ true → b ≡ true) → (b ≡ true → a ≡
 iff true b f g = sym (f refl)
 iff false true f g = g refl
 iff false false f g = refl
+
+pub ltb-same : (a b c d : ℕ) → (a < b → c < d) → (c < d → a < b) → ltb a b ≡ ltb c d
+ltb-same a b c d to back = iff _ _ (λ e. lt-ltb c d (to (ltb-true a b e))) (λ e. lt-ltb a b (back (ltb-true c d e)))
 
 pub not-or : (a b : Bool) → not (a || b) ≡ (not a && not b)
 not-or true b = refl

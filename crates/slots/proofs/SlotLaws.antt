@@ -2,9 +2,9 @@
 -- all those that it doesn't pass over is r; a search from the start on and one from 0 on find the first of the slots tried.
 use mathlib.Core.Path.{_≡_, refl, sym, ap, _∙_}
 use mathlib.Core.Bool.{Bool, true, false, not, _&&_, _||_, and-false, or-false}
-use mathlib.Core.List.{List, [], _∷_, _++_}
+use mathlib.Core.List.{List, [], _++_}
 use mathlib.Core.Option.{Option, none, some}
-use Prim.Native.Nat.{ℕ, suc, _+_, _-_, _<_, _≤_, zero-le}
+use Prim.Native.Nat.{ℕ, _<_, _≤_, zero-le}
 use native.Mathlib.Omega.{arith}
 use borrow.Author.Tests.{ltb-true, ltb-false, le-ltb, le-leb, lt-leb}
 use lib.Dec.{leb, ltb}
@@ -13,7 +13,7 @@ use Rattle.lists.specs.Lists.{any, filter, member, from}
 use Rattle.sector.specs.Contents.{Entry}
 use Rattle.sector.specs.Entries.{givesSlot}
 use Rattle.lists.proofs.ListLaws.{or-right}
-use Rattle.lists.proofs.SearchLaws.{none-some, filter-both, filter-none, filter-first}
+use Rattle.lists.proofs.SearchLaws.{none-some, first-append, filter-both, filter-none, filter-first}
 use Rattle.lists.proofs.TestLaws.{not-or}
 use Rattle.volume.specs.Places.{fileAt}
 use Rattle.volume.specs.Views.{View}
@@ -53,10 +53,6 @@ from-start start y s = go (hasByte s y) (ltb y start) refl
 from-zero : (y : ℕ) (s : List ℕ) → passesOver 0 s y ≡ hasByte s y
 from-zero y s = rw (le-ltb y 0 zero-le) (or-false (hasByte s y))
 
-first-of : (xs ys : List ℕ) (r : ℕ) → getElem? xs 0 ≡ some r → getElem? (xs ++ ys) 0 ≡ some r
-first-of [] ys r e = none-some r e
-first-of (x ∷ xs) ys r e = e
-
 -- Where the set s has the slots of the map, and t those that are given too, the slots that are not in t are free. r is what a
 -- search from `start` on finds of them, and q one from 0 on.
 module _ (a : View) (k f : ℕ) (s t : List ℕ) (mapped : (y : ℕ) → hasByte s y ≡ (hasByte noBytes y || member y (a .headers f .map)))
@@ -81,15 +77,10 @@ module _ (a : View) (k f : ℕ) (s t : List ℕ) (mapped : (y : ℕ) → hasByte
   are-tried = rw (← begins, ← are-free)
       (λ i. filter-both (leb start) (λ y. not (hasByte t y)) (from 0 n) i ++ filter-both (λ y. ltb y start) (λ y. not (hasByte t y)) (from 0 n) i)
 
-  -- A search that fails at r below n: r is the first of the numbers that pass.
-  first-one : (u : ℕ → Bool) (r : ℕ) → r < n → ((y : ℕ) → y < r → u y ≡ false) → u r ≡ true → getElem? (filter u (from 0 n)) 0 ≡ some r
-  first-one u r h fails passes =
-      let z : n ≡ r + suc (n - (r + 1)) = omega arith in
-      rw z (filter-first u r (n - (r + 1)) 0 r (omega arith) (λ y lo hi. fails y hi) passes)
-
   pub free-above : r < n → some r ≡ getElem? (triedFrom (startFor a f p) (freeSlots a k f)) 0
-  free-above h = sym (rw are-tried (first-of (filter up (from 0 n)) (filter down (from 0 n)) r
-      (first-one up r h (λ y hi. from-start start y t ∙ ap not (high .1 y hi)) (from-start start r t ∙ ap not (high .2 h)))))
+  free-above h = sym (rw are-tried (first-append (filter up (from 0 n)) (filter down (from 0 n)) r
+      (filter-first up n 0 r (omega arith) (omega arith) (λ y lo hi. from-start start y t ∙ ap not (high .1 y hi))
+      (from-start start r t ∙ ap not (high .2 h)))))
 
   module _ (q : ℕ) (low : LowestFailing (passesOver 0 t) n q) (end : n ≤ r) where
     none-above : filter up (from 0 n) ≡ []
@@ -102,7 +93,7 @@ module _ (a : View) (k f : ℕ) (s t : List ℕ) (mapped : (y : ℕ) → hasByte
     free-again h =
         let free : hasByte t q ≡ false = sym (from-zero q t) ∙ low .2 h in
         let before : ltb q start ≡ true = or-right (hasByte t q) (ltb q start) (high .1 q (omega arith)) free in
-        sym (rw (are-tried, none-above) (first-one down q h taken (rw (before, free))))
+        sym (rw (are-tried, none-above) (filter-first down n 0 q (omega arith) (omega arith) (λ y lo hi. taken y hi) (rw (before, free))))
 
     pub free-none : n ≤ q → none ≡ getElem? (triedFrom (startFor a f p) (freeSlots a k f)) 0
     free-none h = rw (are-tried, none-above, filter-none down n 0 (λ y lo hi. taken y (omega arith)))

@@ -14,6 +14,15 @@ fn one_file(pages: u8, reals: u8) -> Desk {
     Desk::new(3 + usize::from(reals), 1, &[pages, reals])
 }
 
+/// Two files of one page and four reals. Client 1 holds both.
+fn two_files(clients: u8) -> Desk {
+    let mut desk = Desk::new(11 + usize::from(clients), clients, &[1, 4, 1, 4]);
+    assert_eq!(desk.begin(1), Done(1));
+    assert_eq!(desk.open(1, 1), Done(1));
+    assert_eq!(desk.open(1, 2), Done(1));
+    desk
+}
+
 /// One file that client 1 holds, with this map; its record gives these
 /// (page, real).
 fn made_up(reals: u8, map: &[u8], given: &[(u8, u8)]) -> Desk {
@@ -204,10 +213,7 @@ fn mapped_and_given_reals_are_passed_over() {
 #[test]
 fn entries_of_other_files_are_no_matter() {
     // Headers in sectors 2 and 7.
-    let mut desk = Desk::new(12, 1, &[1, 4, 1, 4]);
-    assert_eq!(desk.begin(1), Done(1));
-    assert_eq!(desk.open(1, 1), Done(1));
-    assert_eq!(desk.open(1, 2), Done(1));
+    let mut desk = two_files(1);
     assert_eq!(desk.write(1, 2, 0, 1), Done(2));
     assert_eq!(desk.read(1, 2, 0), Read::Sector(9));
     assert_eq!(written(&mut desk, 0), Ok(1));
@@ -217,10 +223,7 @@ fn entries_of_other_files_are_no_matter() {
 #[test]
 fn entries_of_other_clients_are_no_matter() {
     // Headers in sectors 3 and 8.
-    let mut desk = Desk::new(13, 2, &[1, 4, 1, 4]);
-    assert_eq!(desk.begin(1), Done(1));
-    assert_eq!(desk.open(1, 1), Done(1));
-    assert_eq!(desk.open(1, 2), Done(1));
+    let mut desk = two_files(2);
     assert_eq!(desk.write(1, 1, 0, 1), Done(2));
     assert_eq!(desk.commit_within(1, 2), Cut(2));
     let mut sectors = Vec::new();
