@@ -1,3 +1,4 @@
+pub mod BitLaws
 pub mod SetLaws
 pub mod LowestLaws
 pub mod WalkLaws

@@ -14,27 +14,11 @@ use lib.ListN.{getD}
 use lib.Pow.{pow-pos}
 use Rattle.lists.proofs.CaseLaws.{by-test}
 use Rattle.lists.proofs.TestLaws.{ltb-same}
-use Rattle.byteset.specs.Set.{hasByte, hasBit, passesOver, LowestFailing}
-use Rattle.byteset.proofs.SetLaws.{bit-or}
+use Rattle.byteset.specs.Bits.{hasBit}
+use Rattle.byteset.specs.Set.{hasByte, passesOver, LowestFailing}
+use Rattle.byteset.proofs.BitLaws.{bit-or, bit-low, bit-half}
 
 -- ------------------------------------------------------------------ the lowest clear bit
--- The lowest bit, and those above it in the word's half.
-bit-low : (w : ℕ) → hasBit w 0 ≡ not (eqb (w % 2) 0)
-bit-low w = ap (λ (x : ℕ). not (eqb x 0)) (and-mask w 1)
-
-bit-half : (w j : ℕ) → hasBit w (suc j) ≡ hasBit (w / 2) j
-bit-half w j =
-    let p : 2 ^ suc j ≡ 2 ^ j * 2 = pow-suc 2 j in
-    let half : 2 ^ suc j / 2 ≡ 2 ^ j = omega (arith, p) in
-    let even : 2 ^ suc j % 2 ≡ 0 = omega (arith, p) in
-    let q : bitAnd w (2 ^ suc j) ≡ bitAnd (w / 2) (2 ^ j) * 2 + 0 = and-step w (2 ^ suc j) ∙ rw (half, even, min-zero (w % 2)) in
-    ap (λ (x : ℕ). not (eqb x 0)) q ∙ twice (bitAnd (w / 2) (2 ^ j))
-  where
-    twice : (n : ℕ) → not (eqb (n * 2 + 0) 0) ≡ not (eqb n 0)
-    twice zero = refl
-    twice (suc n) =
-        ap not (ne-eqb (suc n * 2 + 0) 0 (λ (q : suc n * 2 + 0 ≡ 0). omega arith) ∙ sym (ne-eqb (suc n) 0 (λ (q : suc n ≡ 0). omega arith)))
-
 -- The zeros at the end of the complement, bit by bit: b is the word's lowest bit, and t counts in its half.
 ones-turn : (k w t b : ℕ) → b < 2 → w % 2 ≡ b → LowestFailing (hasBit (w / 2)) k t → LowestFailing (hasBit w) (suc k) (under (1 - b) t)
 ones-turn k w t zero small e rest = (zero-le, λ j (l : j < 0). absurd (not-suc-le-zero l), λ l. bit-low w ∙ rw e)

@@ -1,20 +1,17 @@
 -- A set of bytes in four words of 64 bits: byte x is bit x % 64 of word x / 64.
 use mathlib.Core.Path.{_≡_}
-use mathlib.Core.Bool.{Bool, true, false, not, _||_}
+use mathlib.Core.Bool.{Bool, true, false, _||_}
 use mathlib.Core.List.{List, [], _∷_}
 use Prim.Native.Nat.{ℕ, _/_, _%_, _^_, _≤_, _<_}
-use lib.Bits.{bitAnd, bitOr}
-use lib.Dec.{eqb, ltb}
+use lib.Bits.{bitOr}
+use lib.Dec.{ltb}
 use lib.ListN.{getD, set}
 use Rattle.lists.specs.Lists.{member}
+use Rattle.byteset.specs.Bits.{hasBit}
 
 -- The empty set.
 abbrev pub noBytes : List ℕ
 noBytes = 0 ∷ 0 ∷ 0 ∷ 0 ∷ []
-
--- Bit k of the word is set.
-abbrev pub hasBit : ℕ → ℕ → Bool
-hasBit w k = not (eqb (bitAnd w (2 ^ k)) 0)
 
 -- Byte x is in the set.
 unfoldable pub hasByte : List ℕ → ℕ → Bool

@@ -5,7 +5,8 @@ ghost use mathlib.Core.Path.{_≡_};
 ghost use mathlib.Core.Bool.{not};
 ghost use Prim.Native.Nat.{_/_, _%_, _^_, _<_};
 ghost use lib.ListN.{length};
-ghost use Rattle.byteset.specs.Set.{hasBit, hasByte, withByte, passesOver, LowestFailing};
+ghost use Rattle.byteset.specs.Bits.{hasBit};
+ghost use Rattle.byteset.specs.Set.{hasByte, withByte, passesOver, LowestFailing};
 
 // The word that has only the bit of number x.
 fn mask(x: usize) -> u64

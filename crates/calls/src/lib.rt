@@ -29,7 +29,7 @@ pub fn begin(volume: &mut [u8], session: Session, client: u8, budget: u8) -> Rep
         Verdict::Refused(r) => refuse(session, r),
         Verdict::Accepted => {
             let run = transaction::begin_stores(volume, client, budget);
-            end(run, checks::set_active(session, client, true))
+            end(run, sessions::set_active(session, client, true))
         }
     }
 }
@@ -119,7 +119,7 @@ pub fn commit(volume: &mut [u8], session: Session, client: u8, budget: u8) -> Re
         Verdict::Refused(r) => refuse(session, r),
         Verdict::Accepted => {
             let made = transaction::commit_stores(volume, client, budget);
-            end(made, checks::set_active(session, client, false))
+            end(made, sessions::set_active(session, client, false))
         }
     }
 }
@@ -133,7 +133,7 @@ pub fn abort(volume: &mut [u8], session: Session, client: u8, budget: u8) -> Rep
         Verdict::Refused(r) => refuse(session, r),
         Verdict::Accepted => {
             let run = transaction::abort_stores(volume, client, budget);
-            end(run, checks::set_active(session, client, false))
+            end(run, sessions::set_active(session, client, false))
         }
     }
 }

@@ -1,9 +1,9 @@
 // The tests of each call, lowest number first. No test relies on another call having made it.
 use crate::Verdict;
-use crate::session::is_active;
-use crate::session::session_fits;
 use interface::Refusal;
 use interface::Session;
+use sessions::is_active;
+use sessions::session_fits;
 ghost use mathlib.Core.Path.{_≡_};
 ghost use mathlib.Core.Bool.{true};
 ghost use Rattle.lists.specs.Lists.{first};

@@ -1,6 +1,5 @@
 // The tests of the calls: each answers the first refusal that applies, or that none does.
 mod call;
-mod session;
 mod write;
 
 pub use call::check_active;
@@ -8,9 +7,6 @@ pub use call::check_begin;
 pub use call::check_open;
 pub use call::check_read;
 use interface::Refusal;
-pub use session::is_active;
-pub use session::session_fits;
-pub use session::set_active;
 pub use write::check_write;
 
 // What the tests of a call found.

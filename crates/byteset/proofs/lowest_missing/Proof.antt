@@ -10,7 +10,8 @@ use borrow.Author.Tests.{lt-ltb, le-ltb}
 use lib.Dec.{ltb}
 use lib.Pow.{pow-pos}
 use Rattle.lists.proofs.SearchLaws.{or-true}
-use Rattle.byteset.specs.Set.{hasBit, hasByte, passesOver}
+use Rattle.byteset.specs.Bits.{hasBit}
+use Rattle.byteset.specs.Set.{hasByte, passesOver}
 use Rattle.byteset.proofs.LowestLaws.{start-bits, word-taken, word-free}
 use Rattle.byteset.proofs.lowest_missing.Statement.{statement}
 use Rattle.byteset.proofs.lowest_missing.Tie as tie

@@ -1,8 +1,8 @@
 -- `client_fits` meets its contract: the mark is looked at first.
 use mathlib.Core.Path.{sym, _∙_}
 use borrow.Author.Needs.{needs}
-use Rattle.checks.proofs.session.client_fits.Statement.{statement}
-use Rattle.checks.proofs.session.client_fits.Tie as tie
+use Rattle.sessions.proofs.client_fits.Statement.{statement}
+use Rattle.sessions.proofs.client_fits.Tie as tie
 
 returns : tie.Need-returns
 returns c =

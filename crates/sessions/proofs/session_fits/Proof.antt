@@ -9,8 +9,8 @@ use Rattle.lists.specs.Lists.{every, from}
 use Rattle.lists.proofs.TestLaws.{numbers-more, numbers-fail, numbers-done}
 use Rattle.volume.specs.Volumes.{view}
 use Rattle.rules.specs.Sessions.{isActive, markFits, sessionFits}
-use Rattle.checks.proofs.session.session_fits.Statement.{statement}
-use Rattle.checks.proofs.session.session_fits.Tie as tie
+use Rattle.sessions.proofs.session_fits.Statement.{statement}
+use Rattle.sessions.proofs.session_fits.Tie as tie
 
 abbrev Inv-loop : tie.InvT-loop
 Inv-loop v s k₀ k = (1 ≤ k) × (k ≤ 5) × (sessionFits (view v) s ≡ every (λ j. not (isActive s j) || markFits (view v) j) (from k (5 - k)))

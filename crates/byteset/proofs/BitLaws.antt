@@ -1,0 +1,87 @@
+-- The bits of a word: of an or, of a word with one bit, and of a word's half.
+-- Bit k of a word w is w / 2 ^ k % 2. An or of two words is an or of their bits, and 2 ^ i has bit i alone: division by 2 ^ k
+-- leaves 1 where k is i, 0 where it is more, and an even number where it is less.
+use mathlib.Core.Path.{_≡_, refl, sym, ap, _∙_}
+use mathlib.Core.Bool.{Bool, true, false, not, _||_, or-false}
+use mathlib.Core.Logic.{_≢_}
+use Prim.Native.Nat.{ℕ, zero, suc, _+_, _*_, _-_, _/_, _%_, _^_, _<_, _≤_}
+use native.Mathlib.Nat.{min-zero, pow-suc}
+use native.Mathlib.Omega.{arith}
+use borrow.Author.Tests.{ne-eqb, ltb-true, ltb-false}
+use lib.Bits.{bitAnd, bitOr, and-mask, and-step, and-high, or-shr, or-mod}
+use lib.Dec.{eqb, ltb}
+use lib.Pow.{pow-add, pow-pos, pow-lt, shl-shr, high}
+use Rattle.lists.proofs.SearchLaws.{or-true}
+use Rattle.lists.proofs.TestLaws.{not-and, or-zero}
+use Rattle.byteset.specs.Bits.{hasBit}
+
+-- ------------------------------------------------------------------ each bit by itself
+product-zero : (b p : ℕ) → 0 < p → eqb (b * p) 0 ≡ eqb b 0
+product-zero zero p h = let z : 0 * p ≡ 0 = omega arith in rw z
+product-zero (suc b) p h =
+    let z : suc b * p ≡ p + b * p = omega arith in
+    ne-eqb _ _ (λ (q : suc b * p ≡ 0). omega (arith, z, q, h)) ∙ sym (ne-eqb (suc b) 0 (λ (q : suc b ≡ 0). omega (arith, q)))
+
+bit-is : (w k : ℕ) → hasBit w k ≡ not (eqb (w / 2 ^ k % 2) 0)
+bit-is w k =
+    let p : 2 ^ (1 + k) ≡ 2 * 2 ^ k = pow-add 2 1 k in
+    let m : 2 ^ k ≡ 2 ^ (1 + k) - 2 ^ k = omega (arith, p) in
+    let q : bitAnd w (2 ^ k) ≡ (w / 2 ^ k % 2) * 2 ^ k = ap (bitAnd w) m ∙ and-high w 1 k in
+    ap not (ap (λ (x : ℕ). eqb x 0) q ∙ product-zero (w / 2 ^ k % 2) (2 ^ k) (pow-pos k))
+
+own-bit : (k : ℕ) → 2 ^ k / 2 ^ k % 2 ≡ 1
+own-bit k =
+    let z : 2 ^ k ≡ 1 * 2 ^ k = omega arith in
+    let q : 2 ^ k / 2 ^ k ≡ 1 = ap (λ (x : ℕ). x / 2 ^ k) z ∙ shl-shr 1 k in
+    rw q
+
+low-bit : (i k : ℕ) → i < k → 2 ^ i / 2 ^ k % 2 ≡ 0
+low-bit i k h =
+    let z : 2 ^ i ≡ 0 * 2 ^ k + 2 ^ i = omega arith in
+    let q : 2 ^ i / 2 ^ k ≡ 0 = ap (λ (x : ℕ). x / 2 ^ k) z ∙ high 0 k (pow-lt h) in
+    rw q
+
+high-bit : (j k : ℕ) → 2 ^ (suc j + k) / 2 ^ k % 2 ≡ 0
+high-bit j k =
+    let p : 2 ^ (suc j + k) ≡ 2 ^ suc j * 2 ^ k = pow-add 2 (suc j) k in
+    let q : 2 ^ suc j * 2 ^ k / 2 ^ k ≡ 2 ^ j * 2 = shl-shr (2 ^ suc j) k ∙ pow-suc 2 j in
+    rw (p, q) (omega arith)
+
+other-bit : (i k : ℕ) → i ≢ k → 2 ^ i / 2 ^ k % 2 ≡ 0
+other-bit i k n = go (ltb i k) refl
+  where
+    go : (b : Bool) → ltb i k ≡ b → 2 ^ i / 2 ^ k % 2 ≡ 0
+    go true e = low-bit i k (ltb-true _ _ e)
+    go false e =
+        let le : k ≤ i = ltb-false _ _ e in
+        let m : i ≡ suc (i - k - 1) + k = omega arith in
+        ap (λ (x : ℕ). 2 ^ x / 2 ^ k % 2) m ∙ high-bit (i - k - 1) k
+
+pub bit-or : (w v k : ℕ) → hasBit (bitOr w v) k ≡ (hasBit w k || hasBit v k)
+bit-or w v k =
+    let q : bitOr w v / 2 ^ k % 2 ≡ bitOr (w / 2 ^ k % 2) (v / 2 ^ k % 2) = ap (λ (x : ℕ). x % 2) (or-shr w v k) ∙ or-mod (w / 2 ^ k) (v / 2 ^ k) 1 in
+    rw (bit-is (bitOr w v) k, q, or-zero (w / 2 ^ k % 2) (v / 2 ^ k % 2), bit-is w k, bit-is v k) (not-and (eqb (w / 2 ^ k % 2) 0) (eqb (v / 2 ^ k % 2) 0))
+
+pub bit-same : (w k : ℕ) → hasBit (bitOr w (2 ^ k)) k ≡ true
+bit-same w k = bit-or w (2 ^ k) k ∙ or-true (hasBit w k) _ (bit-is (2 ^ k) k ∙ rw (own-bit k))
+
+pub bit-other : (w i k : ℕ) → i ≢ k → hasBit (bitOr w (2 ^ i)) k ≡ hasBit w k
+bit-other w i k n = bit-or w (2 ^ i) k ∙ rw (bit-is (2 ^ i) k, other-bit i k n) (or-false (hasBit w k))
+
+-- ------------------------------------------------------------------ by halves
+-- The lowest bit, and those above it in the word's half.
+pub bit-low : (w : ℕ) → hasBit w 0 ≡ not (eqb (w % 2) 0)
+bit-low w = ap (λ (x : ℕ). not (eqb x 0)) (and-mask w 1)
+
+pub bit-half : (w j : ℕ) → hasBit w (suc j) ≡ hasBit (w / 2) j
+bit-half w j =
+    let p : 2 ^ suc j ≡ 2 ^ j * 2 = pow-suc 2 j in
+    let half : 2 ^ suc j / 2 ≡ 2 ^ j = omega (arith, p) in
+    let even : 2 ^ suc j % 2 ≡ 0 = omega (arith, p) in
+    let q : bitAnd w (2 ^ suc j) ≡ bitAnd (w / 2) (2 ^ j) * 2 + 0 = and-step w (2 ^ suc j) ∙ rw (half, even, min-zero (w % 2)) in
+    ap (λ (x : ℕ). not (eqb x 0)) q ∙ twice (bitAnd (w / 2) (2 ^ j))
+  where
+    twice : (n : ℕ) → not (eqb (n * 2 + 0) 0) ≡ not (eqb n 0)
+    twice zero = refl
+    twice (suc n) =
+        ap not (ne-eqb (suc n * 2 + 0) 0 (λ (q : suc n * 2 + 0 ≡ 0). omega arith) ∙ sym (ne-eqb (suc n) 0 (λ (q : suc n ≡ 0). omega arith)))
