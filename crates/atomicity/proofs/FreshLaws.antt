@@ -2,7 +2,7 @@
 -- it makes; and that after them the bytes written are the page's decided content.
 -- The views are written out, each as the one before with the updates of a call. A test asks for what the view shows; that
 -- the session fits is supposed here.
-use mathlib.Core.Path.{_≡_, refl}
+use mathlib.Core.Path.{_≡_, refl, _∙_}
 use mathlib.Core.Bool.{true, false, not, _&&_}
 use mathlib.Core.List.{List, [], _∷_}
 use Prim.Native.Nat.{ℕ, _≤_, _<_}
@@ -22,12 +22,12 @@ use Rattle.lists.proofs.SearchLaws.{member-some, from-length, from-below, filte
 use Rattle.volume.specs.Places.{isClient, isFile, fileAt, IsClient, IsFile, IsPage}
 use Rattle.volume.specs.Views.{View, Update, setRecord, setHeader, setSlot, changed, changedBy}
 use Rattle.volume.proofs.PlaceLaws.{is-client, is-file}
-use Rattle.rules.specs.Sessions.{isActive, setActive, sessionFits}
+use Rattle.rules.specs.Sessions.{isActive, setActive, isReading, withoutReading, sessionFits}
 use Rattle.rules.specs.Recovery.{heldFiles, recovery}
 use Rattle.rules.specs.Plans.{begin, openFile, write, commit, freeSlots, chosen, beginPlan, openPlan, plan}
 use Rattle.rules.specs.Refusals.{tests}
 use Rattle.rules.specs.Content.{decidedContent}
-use Rattle.rules.proofs.SessionLaws.{new-inactive, set-same}
+use Rattle.rules.proofs.SessionLaws.{new-inactive, set-same, active-reading, new-unread, none-read, without-unread}
 
 -- ------------------------------------------------------------------ the views
 -- What a fresh view shows of client k and of page p of file f, which has a slot to spare.
@@ -76,6 +76,10 @@ module _ {a : View} {k f p : ℕ} (h : Fresh a k f p) where
   active : isActive (oneActive k) k ≡ true
   active = set-same newSession k true refl (h .client .low) (h .four)
 
+  -- Nobody holds a file for reading.
+  unread : (j : ℕ) → isReading (oneActive k) j f ≡ false
+  unread j = active-reading newSession k true j f ∙ new-unread j f
+
   file : isFile (a .table) f ≡ true
   file = is-file (a .table) f (h .page .file)
 
@@ -97,11 +101,15 @@ module _ {a : View} {k f p : ℕ} (h : Fresh a k f p) where
   -- ------------------------------------------------------------------ open
   pub open-passed : sessionFits (begun a k) (oneActive k) ≡ true → first (tests true (begun a k) (oneActive k) (openFile k f)) ≡ 0
   unfolding first tests
-  open-passed fits = rw (fits, client, active, file, unheld)
+  open-passed fits = rw (fits, client, active, file, unheld, none-read (oneActive k) k f unread)
 
   pub open-made : plan (begun a k) (oneActive k) (openFile k f) ≡ setHeader f (heldHeader a k f) ∷ []
   unfolding plan openPlan
   open-made = rw (unheld, ne-eqb 0 k (omega arith))
+
+  -- Open ends no reading hold.
+  pub open-session : withoutReading (oneActive k) k f ≡ oneActive k
+  open-session = without-unread (oneActive k) k f (unread k)
 
   -- ------------------------------------------------------------------ write
   abbrev pages : ℕ
@@ -122,7 +130,7 @@ module _ {a : View} {k f p : ℕ} (h : Fresh a k f p) where
   pub write-passed : (d : Bytes) → length d ≡ 256 → sessionFits (opened a k f) (oneActive k) ≡ true
       → first (tests true (opened a k f) (oneActive k) (write k f p d)) ≡ 0
   unfolding first tests
-  write-passed d size fits = rw (fits, client, active, file, eq-eqb f f refl, eq-eqb k k refl, below, eq-eqb _ _ size, some-free)
+  write-passed d size fits = rw (fits, client, active, file, eq-eqb f f refl, eq-eqb k k refl, unread k, below, eq-eqb _ _ size, some-free)
 
   pub write-made : (d : Bytes) → let r = chosen (opened a k f) k f p in
       plan (opened a k f) (oneActive k) (write k f p d) ≡ setSlot f r d ∷ setRecord k (oneEntry f p r) ∷ []

@@ -1,4 +1,5 @@
 pub mod StatementExamples
+pub mod ReaderExamples
 pub mod KeepLaws
 pub mod PlanLaws
 pub mod WriteLaws
@@ -8,7 +9,10 @@ pub mod StepLaws
 pub mod Theorem
 pub mod TranscriptLaws
 pub mod ReturnLaws
+pub mod HoldLaws
 pub mod NonVacuity
+pub mod ReaderLaws
 pub mod FreshLaws
 pub mod Progress
+pub mod SharingLaws
 pub mod ModelExamples

@@ -11,9 +11,9 @@ use Rattle.interface.specs.declared.Session.{Session}
 use Rattle.interface.specs.Answers.{newSession, Answer, done, crashed, refused}
 use Rattle.sector.specs.Contents.{Bytes}
 use Rattle.volume.specs.Volumes.{Volume}
-use Rattle.rules.specs.Plans.{Call, begin, openFile, write, commit, abort, Query, readPage}
+use Rattle.rules.specs.Plans.{Call, begin, openFile, openRead, write, commit, abort, Query, readPage}
 use Rattle.rules.specs.Calls.{call}
-use Rattle.rules.proofs.ExampleViews.{active1, active2, active3, active4, active12}
+use Rattle.rules.proofs.ExampleViews.{reads, active1, active2, active3, active4, active12}
 use Rattle.atomicity.specs.Model.{Model, newModel, shown, effect, modelCall}
 use Rattle.atomicity.specs.Runs.{Step, calls, asks, Configuration, started, given, stepped, ranOver}
 
@@ -110,7 +110,7 @@ shows-after = refl
 -- ------------------------------------------------------------------ every call, by its answer
 -- What each call of client 1 leaves, given this session, if it answered so.
 abbrev leave : Session → Answer → List State
-leave s x = map (λ c. stateOf (modelCall busy s c x)) (begin 1 ∷ openFile 1 1 ∷ write 1 1 1 E ∷ commit 1 ∷ abort 1 ∷ [])
+leave s x = map (λ c. stateOf (modelCall busy s c x)) (begin 1 ∷ openFile 1 1 ∷ openRead 1 1 ∷ write 1 1 1 E ∷ commit 1 ∷ abort 1 ∷ [])
 
 -- Nothing changes; every client's pending pages are dropped.
 abbrev unchanged : State
@@ -127,6 +127,7 @@ new = A ∷ zeros ∷ zeros ∷ B ∷ []
 done-given-marks : (n : ℕ) → leave active12 (done n)
     ≡ unchanged
     ∷ unchanged
+    ∷ unchanged
     ∷ state old (some A ∷ some E ∷ none ∷ some B ∷ []) own2
     ∷ state new nothing own2
     ∷ state old nothing own2
@@ -135,7 +136,7 @@ unfolding modelCall
 done-given-marks n = refl
 
 -- "Any call cut: after the above, every slip is emptied."
-crashed-at-0 : leave active12 (crashed 0) ≡ replicate 5 dropped
+crashed-at-0 : leave active12 (crashed 0) ≡ replicate 6 dropped
 unfolding modelCall
 crashed-at-0 = refl
 
@@ -146,34 +147,34 @@ crashed-before = refl
 
 -- Commit "cut with a count of at least 1: its deciding store, the first, was made".
 crashed-later : map (λ n. leave active12 (crashed n)) (1 ∷ 2 ∷ 255 ∷ [])
-    ≡ replicate 3 (dropped ∷ dropped ∷ dropped ∷ state new nothing nothing ∷ dropped ∷ [])
+    ≡ replicate 3 (dropped ∷ dropped ∷ dropped ∷ dropped ∷ state new nothing nothing ∷ dropped ∷ [])
 unfolding modelCall
 crashed-later = refl
 
 -- "A refused call does nothing more", and its session has a mark.
-refused-given-marks : (n : ℕ) → leave active12 (refused n) ≡ replicate 5 unchanged
+refused-given-marks : (n : ℕ) → leave active12 (refused n) ≡ replicate 6 unchanged
 unfolding modelCall
 refused-given-marks n = refl
 
 -- "Any other call, refused or not, whose given session has no mark first empties every slip": a write's page is then the only
 -- one, and a commit has nothing to take.
 done-given-none : (n : ℕ) → leave newSession (done n)
-    ≡ dropped ∷ dropped ∷ state old (none ∷ some E ∷ none ∷ none ∷ []) nothing ∷ dropped ∷ dropped ∷ []
+    ≡ dropped ∷ dropped ∷ dropped ∷ state old (none ∷ some E ∷ none ∷ none ∷ []) nothing ∷ dropped ∷ dropped ∷ []
 unfolding modelCall
 done-given-none n = refl
 
-crashed-given-none : map (λ n. leave newSession (crashed n)) (0 ∷ 1 ∷ 255 ∷ []) ≡ replicate 3 (replicate 5 dropped)
+crashed-given-none : map (λ n. leave newSession (crashed n)) (0 ∷ 1 ∷ 255 ∷ []) ≡ replicate 3 (replicate 6 dropped)
 unfolding modelCall
 crashed-given-none = refl
 
-refused-given-none : (n : ℕ) → leave newSession (refused n) ≡ replicate 5 dropped
+refused-given-none : (n : ℕ) → leave newSession (refused n) ≡ replicate 6 dropped
 unfolding modelCall
 refused-given-none n = refl
 
--- The mark of any client is one, not only the caller's.
+-- The mark of any client is one, not only the caller's. A reading hold is none: a session with holds and no mark empties every slip.
 any-mark : map (λ s. stateOf (modelCall busy s (begin 1) (done 1)))
-    (active1 ∷ active2 ∷ active3 ∷ active4 ∷ [])
-    ≡ replicate 4 unchanged
+    (active1 ∷ active2 ∷ active3 ∷ active4 ∷ reads newSession (1 ∷ 1 ∷ 0 ∷ 0 ∷ []) ∷ [])
+    ≡ unchanged ∷ unchanged ∷ unchanged ∷ unchanged ∷ dropped ∷ []
 unfolding modelCall
 any-mark = refl
 

@@ -25,7 +25,8 @@ use Rattle.atomicity.specs.Runs.{Step, calls, asks, Configuration, start
 use Rattle.atomicity.specs.NonVacuity.{StaysSound, refusalOf, queryRefusalOf, Accepted, AlwaysAccepted}
 use Rattle.atomicity.proofs.StepLaws.{left-all, left-fine}
 use Rattle.atomicity.proofs.Theorem.{startedAs}
-use Rattle.atomicity.proofs.ReturnLaws.{returned-runs, returned-marks}
+use Rattle.atomicity.proofs.ReturnLaws.{returned-runs, returned-marks, returned-words}
+use Rattle.atomicity.proofs.HoldLaws.{returned-reads}
 
 -- ------------------------------------------------------------------ every call leaves a sound volume
 pub stays-sound : StaysSound
@@ -36,11 +37,12 @@ pub record Steady (v : Volume) (s : Session) : Type 0 where
   pub volume : Fine v
   pub session : sessionFits (view v) s ≡ true
   pub marks : length (s .active) ≡ 4
+  pub words : length (s .reading) ≡ 4
 
 pub new-steady : {v : Volume} → Fine v → Steady v newSession
-new-steady {v} h = record { volume = h; session = new-fits (view v); marks = refl }
+new-steady {v} h = record { volume = h; session = new-fits (view v); marks = refl; words = refl }
 
-given-steady : {v : Volume} {s : Session} (crash : Bool) → Steady v s → Steady v (given crash s)
+pub given-steady : {v : Volume} {s : Session} (crash : Bool) → Steady v s → Steady v (given crash s)
 given-steady true h = new-steady (h .volume)
 given-steady false h = h
 
@@ -50,8 +52,10 @@ module _ {v : Volume} {s : Session} (h : Steady v s) where
       (λ ok le. record {
         volume = left-fine v s c ok budget;
         session = rw (left-all v s c ok budget le)
-            (running-fits _ (sessionAfter s c) (returned-runs (view v) s (h .marks) c (ok .allowed)));
+            (running-fits _ (sessionAfter (view v) s c) (returned-runs (view v) s (h .marks) c (ok .allowed))
+            (returned-reads (view v) s (h .marks) (h .words) c (ok .allowed)));
         marks = returned-marks (view v) s (h .marks) c;
+        words = returned-words (view v) s (h .words) c;
       })
       (λ ok lt. new-steady (left-fine v s c ok budget))
 

@@ -1,4 +1,4 @@
--- Each prefix of the stores of begin, open and abort keeps what must not be touched.
+-- Each prefix of the stores of begin, of both opens and of abort keeps what must not be touched.
 -- A header store of recovery keeps it by itself: it frees a header with its decided map. When all are freed no header names
 -- the client, so its record may become idle, and then open. The last store of open is a header with its decided map too.
 use mathlib.Core.Path.{_≡_, refl, sym, _∙_, subst}
@@ -7,23 +7,23 @@ use mathlib.Core.List.{List, [], _∷_, _++_, append-assoc}
 use mathlib.Core.Logic.{_≢_}
 use Prim.Native.Nat.{ℕ, _≤_}
 use native.Mathlib.Omega.{arith}
-use borrow.Author.Tests.{eqb-true, eq-eqb, ne-eqb, not-false}
+use borrow.Author.Tests.{eqb-true, eqb-false, eq-eqb, ne-eqb, not-false}
 use lib.Dec.{eqb}
 use Rattle.interface.specs.declared.Session.{Session}
 use Rattle.lists.specs.Lists.{if_then_else_, every, member}
 use Rattle.sector.specs.Contents.{Table, Header, idleRecord, openRecord}
-use Rattle.lists.proofs.ListLaws.{and-left, and-right, or-right, no-both}
+use Rattle.lists.proofs.ListLaws.{and-left, and-right, or-right, or-none, no-both}
 use Rattle.lists.proofs.CaseLaws.{by-equal, if-test, if-equal}
 use Rattle.volume.specs.Places.{isFile}
 use Rattle.volume.specs.Views.{View, Update, setRecord, setHeader, changed, changedBy}
 use Rattle.volume.proofs.PlaceLaws.{IsFile, file-of}
 use Rattle.volume.proofs.LawfulLaws.{HeaderFacts, Lawful, idle-fits, open-fits, placed-header}
 use Rattle.volume.proofs.AlongLaws.{Along, last, step, last-record}
-use Rattle.rules.specs.Sessions.{isActive, isOrphaned}
+use Rattle.rules.specs.Sessions.{isActive, isOrphaned, isReading, holds, holdsEither}
 use Rattle.rules.specs.Recovery.{isDecided, mapAfter, heldFiles, recovery}
-use Rattle.rules.specs.Plans.{beginPlan, openPlan}
+use Rattle.rules.specs.Plans.{beginPlan, openPlan, openReadPlan}
 use Rattle.rules.specs.Content.{decidedMap}
-use Rattle.rules.proofs.AllowedLaws.{Others, Running, MayBegin, MayAct, MayOpen, holder-orphaned, running-undecided, running-foreign}
+use Rattle.rules.proofs.AllowedLaws.{Others, Running, MayBegin, MayAct, MayOpenRead, holder-orphaned, running-undecided, running-foreign}
 use Rattle.rules.proofs.ContentLaws.{decidedHeader, unheld-map, decided-fits}
 use Rattle.rules.proofs.RecoveryLaws.{held-files, held-member, freeing, map-after, recovery-is}
 use Rattle.atomicity.proofs.KeepLaws.{Keeps, keeps-self, keep-header, keep-record}
@@ -68,10 +68,14 @@ module _ (a₀ : View) (s : Session) (k j : ℕ) (laws : Lawful (a₀ .table) a�
   pub recovery-then : KeptAlong a₀ s k a₀ (recovery (isDecided a₀ j) a₀ j ++ ys)
   recovery-then = rw (recovery-is a₀ j lo, append-assoc (freeing a₀ (heldFiles a₀ j)) (setRecord j idleRecord ∷ []) ys) recovers
 
+-- Recovery of j and nothing after it; and of the caller itself.
+recovery-of : {a₀ : View} (s : Session) (k j : ℕ) → Lawful (a₀ .table) a₀ → 1 ≤ j → j ≤ a₀ .table .clients
+    → ((i : ℕ) → Others s k i → i ≢ j) → KeptAlong a₀ s k a₀ (recovery (isDecided a₀ j) a₀ j)
+recovery-of {a₀} s k j laws lo hi ne = rw (recovery-is a₀ j lo) (recovers a₀ s k j laws lo hi ne [] (λ a kept unnamed. last kept))
+
 pub recovery-along : {a₀ : View} (s : Session) (k : ℕ) → Lawful (a₀ .table) a₀ → 1 ≤ k → k ≤ a₀ .table .clients
     → KeptAlong a₀ s k a₀ (recovery (isDecided a₀ k) a₀ k)
-recovery-along {a₀} s k laws lo hi =
-    rw (recovery-is a₀ k lo) (recovers a₀ s k k laws lo hi (λ i o. o .other) [] (λ a kept unnamed. last kept))
+recovery-along s k laws lo hi = recovery-of s k k laws lo hi (λ i o. o .other)
 
 module _ {a : View} {s : Session} {k : ℕ} where
   -- ------------------------------------------------------------------ abort
@@ -94,9 +98,9 @@ module _ {a : View} {s : Session} {k : ℕ} where
           step {x = setRecord k openRecord} kept (w .low, w .high, open-fits (a .table))
           (last (keep-record kept k openRecord (open-fits (a .table)) (λ f i e. absurd (unnamed f i e)) (λ i o. o .other)))
 
-  -- ------------------------------------------------------------------ open
-  -- All active clients are left alone, k too: the others are those that aren't 0.
-  module _ {f : ℕ} (w : MayOpen a s k f) (foreign : a .headers f .holder ≢ k) where
+  -- ------------------------------------------------------------------ open, for writing and for reading
+  -- All active clients are left alone, k too: the others are those that aren't 0. The holder, which isn't k, is none of them.
+  module _ {f : ℕ} (w : MayOpenRead a s k f) (foreign : a .headers f .holder ≢ k) where
     unheld : (i : ℕ) → Others s 0 i → a .headers f .holder ≢ i
     unheld i o q =
         let some : eqb (a .headers f .holder) 0 ≡ false = rw q (ne-eqb i 0 (omega (arith, o .active .low))) in
@@ -121,7 +125,15 @@ module _ {a : View} {s : Session} {k : ℕ} where
         step kept (placed-header (decidedHeader a f k) (w .act .ready .laws .table) (w .file) map)
         (last (keep-header kept f k facts undecided unheld))
 
-  pub open-along : {f : ℕ} → MayOpen a s k f → KeptAlong a s 0 a (openPlan a s k f)
+  -- What a recovery of it relies on.
+  module _ {f h : ℕ} (w : MayOpenRead a s k f) (e : a .headers f .holder ≡ h) (n : a .headers f .holder ≢ k) (pos : 1 ≤ h) where
+    holder-client : h ≤ a .table .clients
+    holder-client = rw e at (w .act .ready .laws .headers f (w .file) .holder (omega arith) .client)
+
+    holder-other : (i : ℕ) → Others s 0 i → i ≢ h
+    holder-other i o x = unheld w n i o (e ∙ sym x)
+
+  pub open-along : {f : ℕ} → MayOpenRead a s k f → KeptAlong a s 0 a (openPlan a s k f)
   unfolding openPlan
   open-along {f} w =
       let self : Keeps a s 0 a = keeps-self (w .act .ready .laws) in
@@ -132,11 +144,20 @@ module _ {a : View} {s : Session} {k : ℕ} where
     where
       orphaned : (h : ℕ) → a .headers f .holder ≡ h → a .headers f .holder ≢ k → 1 ≤ h → KeptAlong a s 0 a
           (recovery (isDecided a h) a h ++ (setHeader f (record { holder = k; map = mapAfter (isDecided a h) a h f }) ∷ []))
-      orphaned h e n pos =
-          let laws = w .act .ready .laws in
-          let hi : h ≤ a .table .clients = rw e at (laws .headers f (w .file) .holder (omega arith) .client) in
-          rw (map-after a h f pos e) (recovery-then a s 0 h laws pos hi (λ i o x. unheld w n i o (e ∙ sym x)) _
-          (λ b kept unnamed. takes w n b kept))
+      orphaned h e n pos = rw (map-after a h f pos e)
+          (recovery-then a s 0 h (w .act .ready .laws) pos (holder-client w e n pos) (holder-other w e n pos) _ (λ b kept unnamed. takes w n b kept))
+
+  pub open-read-along : {f : ℕ} → MayOpenRead a s k f → KeptAlong a s 0 a (openReadPlan a s k f)
+  unfolding openReadPlan
+  open-read-along {f} w =
+      let self : Keeps a s 0 a = keeps-self (w .act .ready .laws) in
+      let h = a .headers f .holder in
+      if-test (KeptAlong a s 0 a) (holdsEither a s k f) [] _ (λ e. last self)
+      (λ e.
+      let n : h ≢ k = eqb-false _ _ (or-none (holds a k f) (isReading s k f) e .0) in
+      rw (holder-orphaned a s k f (w .act .ready .laws .headers f (w .file)) (w .free) n) (by-equal h 0
+      (λ z. rw (eq-eqb _ 0 z) (last self))
+      (λ z. rw (ne-eqb _ 0 z) (recovery-of s 0 h (w .act .ready .laws) (omega arith) (holder-client w refl n (omega arith)) (holder-other w refl n (omega arith))))))
 
 -- After begin the record is open and has no entries.
 pub begin-opens : (a : View) (s : Session) (k : ℕ) → changedBy a (beginPlan a s k) .records k ≡ openRecord

@@ -31,21 +31,21 @@ use Rattle.atomicity.specs.Runs.{Configuration, started, called}
 use Rattle.atomicity.specs.NonVacuity.{calledAll, answersTo, writing, WritesTakeEffect}
 use Rattle.atomicity.proofs.StepLaws.{left-all}
 use Rattle.atomicity.proofs.NonVacuity.{Steady, new-steady, call-steady}
-use Rattle.atomicity.proofs.FreshLaws.{Fresh, opened, begin-passed, begin-made, open-passed, open-made, write-passed, write-made, commit-passed, commit-made, committed-content}
+use Rattle.atomicity.proofs.FreshLaws.{Fresh, opened, begin-passed, begin-made, open-passed, open-made, open-session, write-passed, write-made, commit-passed, commit-made, committed-content}
 
 -- ------------------------------------------------------------------ a call that is done
 -- Where a run is: its volume and session are steady, and these are its view and its session.
-record At (r : Configuration) (a : View) (s : Session) : Type 0 where
-  steady : Steady (r .volume) (r .session)
-  seen : view (r .volume) ≡ a
-  session : r .session ≡ s
+pub record At (r : Configuration) (a : View) (s : Session) : Type 0 where
+  pub steady : Steady (r .volume) (r .session)
+  pub seen : view (r .volume) ≡ a
+  pub session : r .session ≡ s
 
--- A call of which no test holds, if the session fits, makes its updates.
-advance : {r : Configuration} {a : View} {s : Session} (c : Call) (xs : List Update) (budget : ℕ) → At r a s
-    → (sessionFits a s ≡ true → first (tests true a s c) ≡ 0) → plan a s c ≡ xs → length xs ≤ budget
+-- A call of which no test holds, if the session fits, makes its updates and hands back its session.
+pub advance : {r : Configuration} {a : View} {s s′ : Session} (c : Call) (xs : List Update) (budget : ℕ) → At r a s
+    → (sessionFits a s ≡ true → first (tests true a s c) ≡ 0) → plan a s c ≡ xs → sessionAfter a s c ≡ s′ → length xs ≤ budget
     → (call (r .volume) (r .session) c budget .answer ≡ done (length xs))
-    × At (called r (r .session) c budget) (changedBy a xs) (sessionAfter s c)
-advance {r} {a} {s} c xs budget h passes made le =
+    × At (called r (r .session) c budget) (changedBy a xs) s′
+advance {r} {a} {s} c xs budget h passes made handed le =
     let none : first (tests (sound (r .volume)) (view (r .volume)) (r .session) c) ≡ 0
     = rw (fine-sound (r .volume) (h .steady .volume), h .seen, h .session) (passes (rw (h .seen, h .session) at (h .steady .session))) in
     let updates : plan (view (r .volume)) (r .session) c ≡ xs = rw (h .seen, h .session) made in
@@ -57,7 +57,7 @@ advance {r} {a} {s} c xs budget h passes made le =
         steady = call-steady (h .steady) c budget;
         seen = ap (λ (x : After). view (x .volume)) ends
             ∙ left-all (r .volume) (r .session) c (passed (r .volume) (r .session) c none) budget (rw count le) ∙ rw (updates, h .seen);
-        session = ap (λ (x : After). x .session) ends ∙ rw (h .session);
+        session = ap (λ (x : After). x .session) ends ∙ rw (h .seen, h .session) handed;
       },
     )
 
@@ -68,10 +68,10 @@ effective : {a : View} {k f p : ℕ} (h : Fresh a k f p) (d : Bytes) → length 
     × (decidedContent (view (calledAll r budget (writing k f p d) .volume)) f p ≡ d)
 effective {a} {k} {f} {p} h d size r budget start le =
     let slot = chosen (opened a k f) k f p in
-    let b = advance (begin k) _ budget start (begin-passed h) (begin-made h) (omega arith) in
-    let o = advance (openFile k f) _ budget (b .1) (open-passed h) (open-made h) (omega arith) in
-    let w = advance (write k f p d) _ budget (o .1) (write-passed h d size) (write-made h d) (omega arith) in
-    let c = advance (commit k) _ budget (w .1) (commit-passed h d slot) (commit-made h d slot) le in
+    let b = advance (begin k) _ budget start (begin-passed h) (begin-made h) refl (omega arith) in
+    let o = advance (openFile k f) _ budget (b .1) (open-passed h) (open-made h) (open-session h) (omega arith) in
+    let w = advance (write k f p d) _ budget (o .1) (write-passed h d size) (write-made h d) refl (omega arith) in
+    let c = advance (commit k) _ budget (w .1) (commit-passed h d slot) (commit-made h d slot) refl le in
     (rw (b .0, o .0, w .0, c .0), rw (c .1 .seen) (committed-content h d slot))
 
 -- ------------------------------------------------------------------ on a formatted volume

@@ -21,15 +21,15 @@ use Rattle.volume.specs.Places.{fileAt}
 use Rattle.volume.specs.Views.{View, Update, changedBy}
 use Rattle.volume.proofs.PlaceLaws.{IsFile}
 use Rattle.volume.proofs.AlongLaws.{along-take, along-end, changed-table}
-use Rattle.rules.specs.Sessions.{isActive, setActive, noneActive}
-use Rattle.rules.specs.Plans.{Call, begin, openFile, write, commit, abort, entryFor, chosen, beginPlan, writePlan, plan, sessionAfter}
+use Rattle.rules.specs.Sessions.{isActive, setActive, withReading, withoutReader, holdsEither, noneActive}
+use Rattle.rules.specs.Plans.{Call, begin, openFile, openRead, write, commit, abort, entryFor, chosen, beginPlan, writePlan, plan, sessionAfter}
 use Rattle.rules.specs.Content.{decidedContent}
 use Rattle.rules.proofs.SessionLaws.{none-active, set-same, set-other, set-marks}
-use Rattle.rules.proofs.AllowedLaws.{Active, Others, MayBegin, MayAct, MayWrite, Allowed, own-record}
+use Rattle.rules.proofs.AllowedLaws.{Active, Others, MayBegin, MayAct, MayOpenRead, MayWrite, Allowed, own-record}
 use Rattle.rules.proofs.RecoveryLaws.{decidedView}
 use Rattle.atomicity.specs.Model.{noPending, Model, emptied, withPending, withPage, committed, isDeciding, effect}
 use Rattle.atomicity.proofs.KeepLaws.{pendingBy, pendingIn, Keeps, kept-content}
-use Rattle.atomicity.proofs.PlanLaws.{KeptAlong, abort-along, begin-along, begin-opens, open-along}
+use Rattle.atomicity.proofs.PlanLaws.{KeptAlong, abort-along, begin-along, begin-opens, open-along, open-read-along}
 use Rattle.atomicity.proofs.WriteLaws.{new-free, write-along, commit-along}
 use Rattle.atomicity.proofs.PendingLaws.{page-again, page-first, commit-content}
 
@@ -106,7 +106,7 @@ own-matches {k} {b = b} {s} {s′} {m′ = m′} h others marks pending own page
 -- Crashed after n stores: what is pending no longer counts, so only the pages are asked for. Done: whatever the count.
 pub record Outcome (a : View) (s : Session) (m : Model) (c : Call) : Type 0 where
   pub crashes : (n : ℕ) → PagesMatch (changedBy a (take n (plan a s c))) (effect m c (crashed n))
-  pub ends : (n : ℕ) → Matches (changedBy a (plan a s c)) (sessionAfter s c) (effect m c (done n))
+  pub ends : (n : ℕ) → Matches (changedBy a (plan a s c)) (sessionAfter a s c) (effect m c (done n))
 
 module _ (a : View) (s : Session) (m : Model) (h : Faithful a s m) where
   -- Those of the others stay, if the updates leave the others alone.
@@ -150,9 +150,9 @@ module _ (a : View) (s : Session) (m : Model) (h : Faithful a s m) where
           (page-first (own-record (w .place .act)) a f p d (chosen a k f p) new (new-free w new .ungiven))
 
   module _ (k : ℕ) (w : MayAct a s k) where
-    -- Commit and abort unmark k, and leave none of its pages pending.
+    -- Commit and abort unmark k and end its reading holds, and leave none of its pages pending.
     ended : (b : View) (m′ : Model) → ((j : ℕ) → m′ .pending j ≡ (if eqb j k then noPending else m .pending j))
-        → ((j : ℕ) → Others s k j → pendingIn b j ≡ pendingIn a j) → PagesMatch b m′ → Matches b (setActive s k false) m′
+        → ((j : ℕ) → Others s k j → pendingIn b j ≡ pendingIn a j) → PagesMatch b m′ → Matches b (withoutReader (setActive s k false) k) m′
     ended b m′ pending others pages = own-matches h others (λ j lo n. set-other s k j false (w .active .low) lo n)
         (λ j n. pending j ∙ rw (ne-eqb j k n))
         (λ lo hi. record {
@@ -180,13 +180,22 @@ module _ (a : View) (s : Session) (m : Model) (h : Faithful a s m) where
             let decides : isDeciding (crashed (suc n)) ≡ true = le-leb 1 (suc n) (omega arith) in
             rw decides (prefix-pages (committed m k) decided (commit-along w) n)
 
+  -- The opens leave the marks, what is pending and all active clients.
+  opens : {s′ : Session} {xs : List Update} → KeptAlong a s 0 a xs → s′ .active ≡ s .active → Matches (changedBy a xs) s′ m
+  opens along same = own-matches h (kept-pending along) (λ j lo n. rw same) (λ j n. refl) (λ lo hi. absurd (omega arith))
+      (end-pages m (h .pages) along) (rw same (h .marks))
+
   pub outcome : (c : Call) → Allowed a s c → Outcome a s m c
   unfolding plan
   outcome (begin k) w = begin-outcome k w
   outcome (openFile k f) w = record {
-    crashes = prefix-pages m (h .pages) (open-along w);
-    ends = λ n. own-matches h (kept-pending (open-along w)) (λ j lo n. refl) (λ j n. refl) (λ lo hi. absurd (omega arith))
-        (end-pages m (h .pages) (open-along w)) (h .marks);
+    crashes = prefix-pages m (h .pages) (open-along (w .either));
+    ends = λ n. opens (open-along (w .either)) refl;
+  }
+  outcome (openRead k f) w = record {
+    crashes = prefix-pages m (h .pages) (open-read-along w);
+    ends = λ n. opens (open-read-along w)
+        (if-test (λ (s′ : Session). s′ .active ≡ s .active) (holdsEither a s k f) s (withReading s k f) (λ e. refl) (λ e. refl));
   }
   outcome (write k f p d) w = write-outcome k f p d w
   outcome (commit k) w = commit-outcome k w

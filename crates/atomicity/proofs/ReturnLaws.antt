@@ -1,4 +1,5 @@
--- The session that a call hands back fits the volume that it leaves: every client that it marks has a transaction running.
+-- The marks of the session that a call hands back fit the volume that it leaves: every client that it marks has a transaction
+-- running.
 -- A client that was active and isn't the caller has its record and its files, as the call's updates leave them alone; the
 -- caller has, after begin an open record without entries, after write one entry more for a file that it holds.
 use mathlib.Core.Path.{_≡_, refl, sym, ap, _∙_}
@@ -15,16 +16,16 @@ use Rattle.interface.specs.declared.Session.{Session}
 use Rattle.lists.specs.Lists.{every}
 use Rattle.sector.specs.Contents.{Bytes, Entry, Record}
 use Rattle.lists.proofs.ListLaws.{no-both}
-use Rattle.lists.proofs.CaseLaws.{by-equal}
+use Rattle.lists.proofs.CaseLaws.{by-equal, if-test}
 use Rattle.lists.proofs.SearchLaws.{every-implies, every-end}
 use Rattle.volume.specs.Views.{View, Update, changedBy}
 use Rattle.volume.proofs.AlongLaws.{along-end, changed-table}
-use Rattle.rules.specs.Sessions.{isActive, setActive}
-use Rattle.rules.specs.Plans.{Call, begin, openFile, write, commit, abort, entryFor, chosen, beginPlan, writePlan, plan, sessionAfter}
-use Rattle.rules.proofs.SessionLaws.{set-same, set-other, set-marks}
+use Rattle.rules.specs.Sessions.{isActive, setActive, withReading, holdsEither}
+use Rattle.rules.specs.Plans.{Call, begin, openFile, openRead, write, commit, abort, entryFor, chosen, beginPlan, writePlan, plan, sessionAfter}
+use Rattle.rules.proofs.SessionLaws.{set-same, set-other, set-marks, set-words}
 use Rattle.rules.proofs.AllowedLaws.{Active, Others, Running, MayBegin, MayAct, MayWrite, Allowed}
 use Rattle.atomicity.proofs.KeepLaws.{Untouched}
-use Rattle.atomicity.proofs.PlanLaws.{KeptAlong, abort-along, begin-along, begin-opens, open-along}
+use Rattle.atomicity.proofs.PlanLaws.{KeptAlong, abort-along, begin-along, begin-opens, open-along, open-read-along}
 use Rattle.atomicity.proofs.WriteLaws.{write-along, commit-along}
 
 -- ------------------------------------------------------------------ clients that are left alone
@@ -68,29 +69,50 @@ module _ (a : View) (s : Session) (marks : length (s .active) ≡ 4) where
         client = r .client;
         state = rw (eq-eqb k k refl) (r .state);
         mine = rw (eq-eqb k k refl) (every-end (λ e. eqb (a .headers (e .file) .holder) k) (a .records k .entries)
-            (record { file = f; page = p; slot = chosen a k f p }) (r .mine) (eq-eqb _ _ (w .place .holder)));
+            (record { file = f; page = p; slot = chosen a k f p }) (r .mine) (eq-eqb _ _ (w .holder)));
       }
 
-  -- Commit and abort.
-  ended-runs : {k : ℕ} {b : View} {xs : List Update} → MayAct a s k → KeptAlong b s k b xs → ((j : ℕ) → Others s k j → Running b j)
-      → (j : ℕ) → Active (setActive s k false) j → Running (changedBy b xs) j
-  ended-runs {k} w along runs = runs-after along (λ j lo n. set-other s k j false (w .active .low) lo n) runs
-      (λ x. no-both _ (x .on) (set-same s k false marks (w .active .low) (w .active .high)))
+  -- The opens: no client is touched, and the marks stay.
+  opened-runs : {k : ℕ} {s′ : Session} {xs : List Update} → MayAct a s k → KeptAlong a s 0 a xs → s′ .active ≡ s .active
+      → (j : ℕ) → Active s′ j → Running (changedBy a xs) j
+  opened-runs w along same =
+      runs-after along (λ j lo n. rw same) (λ j o. w .ready .runs j (o .active)) (λ x. absurd (omega (arith, x .low)))
 
-  pub returned-runs : (c : Call) → Allowed a s c → (j : ℕ) → Active (sessionAfter s c) j → Running (changedBy a (plan a s c)) j
+  -- Commit and abort, whatever reading holds there are then.
+  ended-runs : {k : ℕ} {b : View} {s′ : Session} {xs : List Update} → MayAct a s k → KeptAlong b s k b xs → s′ .active ≡ setActive s k false .active
+      → ((j : ℕ) → Others s k j → Running b j) → (j : ℕ) → Active s′ j → Running (changedBy b xs) j
+  ended-runs {k} w along same runs = runs-after along (λ j lo n. rw same (set-other s k j false (w .active .low) lo n)) runs
+      (λ x. no-both _ (rw same at (x .on)) (set-same s k false marks (w .active .low) (w .active .high)))
+
+  -- Opening for reading leaves the marks.
+  read-marks : (k f : ℕ) → sessionAfter a s (openRead k f) .active ≡ s .active
+  read-marks k f = if-test (λ (s′ : Session). s′ .active ≡ s .active) (holdsEither a s k f) s (withReading s k f) (λ e. refl) (λ e. refl)
+
+  pub returned-runs : (c : Call) → Allowed a s c → (j : ℕ) → Active (sessionAfter a s c) j → Running (changedBy a (plan a s c)) j
   unfolding plan
   returned-runs (begin k) w = begin-runs k w
-  returned-runs (openFile k f) w =
-      runs-after (open-along w) (λ j lo n. refl) (λ j o. w .act .ready .runs j (o .active)) (λ x. absurd (omega (arith, x .low)))
+  returned-runs (openFile k f) w = opened-runs (w .either .act) (open-along (w .either)) refl
+  returned-runs (openRead k f) w = opened-runs (w .act) (open-read-along w) (read-marks k f)
   returned-runs (write k f p d) w = write-runs k f p d w
-  returned-runs (commit k) w = ended-runs w (commit-along w) (λ j o.
+  returned-runs (commit k) w = ended-runs w (commit-along w) refl (λ j o.
       let h : Running a j = w .ready .runs j (o .active) in
       record { client = h .client; state = rw (ne-eqb j k (o .other)) (h .state); mine = rw (ne-eqb j k (o .other)) (h .mine) })
-  returned-runs (abort k) w = ended-runs w (abort-along w) (λ j o. w .ready .runs j (o .active))
+  returned-runs (abort k) w = ended-runs w (abort-along w) refl (λ j o. w .ready .runs j (o .active))
 
-  pub returned-marks : (c : Call) → length (sessionAfter s c .active) ≡ 4
+  pub returned-marks : (c : Call) → length (sessionAfter a s c .active) ≡ 4
   returned-marks (begin k) = set-marks s k true marks
   returned-marks (openFile k f) = marks
+  returned-marks (openRead k f) = rw (read-marks k f) marks
   returned-marks (write k f p d) = marks
   returned-marks (commit k) = set-marks s k false marks
   returned-marks (abort k) = set-marks s k false marks
+
+-- The words of reading holds stay four.
+pub returned-words : (a : View) (s : Session) → length (s .reading) ≡ 4 → (c : Call) → length (sessionAfter a s c .reading) ≡ 4
+returned-words a s words (begin k) = words
+returned-words a s words (openFile k f) = set-words s k _ words
+returned-words a s words (openRead k f) =
+    if-test (λ (s′ : Session). length (s′ .reading) ≡ 4) (holdsEither a s k f) s (withReading s k f) (λ e. words) (λ e. set-words s k _ words)
+returned-words a s words (write k f p d) = words
+returned-words a s words (commit k) = set-words (setActive s k false) k 0 words
+returned-words a s words (abort k) = set-words (setActive s k false) k 0 words

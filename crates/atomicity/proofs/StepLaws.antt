@@ -5,6 +5,7 @@ use mathlib.Core.Path.{_≡_, refl, sym, ap, _∙_}
 use mathlib.Core.List.{List}
 use mathlib.Core.Option.{Option, none, some, Option·getD}
 use Prim.Native.Nat.{ℕ, _≤_}
+use borrow.Author.Tests.{eqb-true}
 use lib.ListN.{length, getD, take}
 use Rattle.interface.specs.declared.Session.{Session}
 use Rattle.interface.specs.Answers.{refused}
@@ -21,13 +22,14 @@ use Rattle.volume.proofs.AccessLaws.{slot-is}
 use Rattle.volume.proofs.LawfulLaws.{Lawful, EntryFacts, entry-facts}
 use Rattle.volume.proofs.AlongLaws.{Along, changed-table}
 use Rattle.volume.proofs.SoundLaws.{Fine, cut-view, cut-all, cut-fine}
-use Rattle.rules.specs.Sessions.{noneActive}
-use Rattle.rules.specs.Plans.{Call, begin, openFile, write, commit, abort, Query, readPage, entryFor, slotFor, plan}
+use Rattle.rules.specs.Sessions.{holds, noneActive}
+use Rattle.rules.specs.Plans.{Call, begin, openFile, openRead, write, commit, abort, Query, readPage, entryFor, slotFor, plan}
 use Rattle.rules.specs.Calls.{After, callStores, call, query, partOf}
 use Rattle.rules.specs.Content.{decidedMap}
 use Rattle.rules.proofs.CallLaws.{Passed, call-case, call-left, query-case}
 use Rattle.rules.proofs.SessionLaws.{none-active}
-use Rattle.rules.proofs.AllowedLaws.{Active, MayRead, own-record, slot-below}
+use Rattle.rules.proofs.AllowedLaws.{Active, MayRead, read-holder, own-record, slot-below}
+use Rattle.rules.proofs.ContentLaws.{unheld-map}
 use Rattle.atomicity.specs.Model.{Pending, Model, overlaid, shown, emptied, effect, modelCall}
 use Rattle.atomicity.specs.AllOrNone.{QueryAgrees}
 use Rattle.atomicity.proofs.KeepLaws.{bytesFor, pendingIn}
@@ -38,6 +40,7 @@ use Rattle.atomicity.proofs.RelationLaws.{Matches, Faithful, faithful, 
 refused-matches : (a : View) (s : Session) (m : Model) → Matches a s m → (c : Call) (n : ℕ) → Matches a s (effect m c (refused n))
 refused-matches a s m h (begin k) n = h
 refused-matches a s m h (openFile k f) n = h
+refused-matches a s m h (openRead k f) n = h
 refused-matches a s m h (write k f p d) n = h
 refused-matches a s m h (commit k) n = h
 refused-matches a s m h (abort k) n = h
@@ -74,17 +77,21 @@ call-table v s c budget = call-left (λ w. view w .table ≡ view v .table) v s 
     (λ ok. ap (λ (a : View). a .table) (left-view v s c ok budget) ∙ changed-table (take budget (plan (view v) s c)) (view v))
 
 -- ------------------------------------------------------------------ a read
+-- A file that a client reads, by either hold, has its decided map for its map: nobody holds it, or the client, which isn't decided.
+read-map : {a : View} {s : Session} {k f p : ℕ} → MayRead a s k f p → decidedMap a f ≡ a .headers f .map
+read-map {a} {s} {k} {f} w = by-test (holds a k f) (λ e. own-map (w .act) f (eqb-true _ _ e))
+    (λ e. unheld-map a f (w .act .ready .reads k f (read-holder w e) .free))
+
 -- The slot that a read finds has what the model shows.
 slot-shown : (a : View) (s : Session) (m : Model) → Matches a s m → (k f p : ℕ) → MayRead a s k f p
     → (o : Option Entry) → entryFor a k f p ≡ o
     → a .slots f (slotFor a f p o) ≡ Option·getD (bytesFor (a .slots) o) (m .pages f p)
 slot-shown a s m h k f p w none e =
-    let q : decidedMap a f ≡ a .headers f .map = own-map (w .act) f (w .holder) in
-    sym (ap (λ (l : List ℕ). a .slots f (getD l p 0)) q) ∙ h .pages f p (w .file) (w .page)
+    sym (ap (λ (l : List ℕ). a .slots f (getD l p 0)) (read-map w)) ∙ h .pages f p (w .file) (w .page)
 slot-shown a s m h k f p w (some e) found = rw (entry-facts (own-record (w .act)) f p e found .file)
 
 -- A client that reads is active, so the model's pending pages are those of its record.
-read-pending : (a : View) (s : Session) (m : Model) → Matches a s m → (k : ℕ) → Active s k → m .pending k ≡ pendingIn a k
+pub read-pending : (a : View) (s : Session) (m : Model) → Matches a s m → (k : ℕ) → Active s k → m .pending k ≡ pendingIn a k
 read-pending a s m h k w =
     h .tracked (by-test (noneActive s) (λ e. no-both _ (w .on) (none-active s k e)) (λ e. e)) k (w .low) (w .high) .active (w .on)
 

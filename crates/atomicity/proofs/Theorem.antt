@@ -33,7 +33,7 @@ pub record Related (t : Table) (r : Configuration) : Type 0 where
   pub matches : Matches (view (r .volume)) (r .session) (r .model)
 
 -- ------------------------------------------------------------------ every list of steps
-given-matches : (a : View) (s : Session) (m : Model) (crash : Bool) → Matches a s m → Matches a (given crash s) m
+pub given-matches : (a : View) (s : Session) (m : Model) (crash : Bool) → Matches a s m → Matches a (given crash s) m
 given-matches a s m true h = new-matches a m (h .pages)
 given-matches a s m false h = h
 
@@ -64,9 +64,11 @@ startedAs v = record {
   model = record { pages = decidedContent (view v); pending = λ k. noPending };
 }
 
+pub started-related : (v : Volume) → Related (view v .table) (startedAs v)
+started-related v = record { table = refl; matches = new-matches (view v) _ (λ f p i lt. refl) }
+
 pub agrees-from : (v : Volume) (steps : List Step) → Agrees (view v .table) (startedAs v) steps
-agrees-from v steps = agrees (view v .table) (startedAs v) steps
-    (record { table = refl; matches = new-matches (view v) _ (λ f p i lt. refl) })
+agrees-from v steps = agrees (view v .table) (startedAs v) steps (started-related v)
 
 -- ------------------------------------------------------------------ from a formatted volume
 -- Page p is in slot p, and every slot is zero.
@@ -79,7 +81,7 @@ new-content t facts f p i lt =
     ∙ ap (λ (h : Header). a .slots f (getD (h .map) p 0)) header
     ∙ rw (from-at (fileAt t f .pages) 0 p lt) (new-slot t facts f (0 + p) i (omega (arith, file-facts facts f i .room)))
 
-new-related : (t : Table) → TableFacts t → Related t (started (newVolume t))
+pub new-related : (t : Table) → TableFacts t → Related t (started (newVolume t))
 new-related t facts = record {
   table = new-table t facts;
   matches = new-matches (view (newVolume t)) newModel

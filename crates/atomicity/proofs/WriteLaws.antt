@@ -27,14 +27,14 @@ use Rattle.volume.proofs.ViewLaws.{Placed}
 use Rattle.volume.proofs.LawfulLaws.{RecordFacts, Lawful, record-fits, entry-facts, decided-fits, lawful-record}
 use Rattle.volume.proofs.AlongLaws.{Along, last, step, along-map}
 use Rattle.rules.specs.Recovery.{isDecided, recovery}
-use Rattle.rules.specs.Plans.{Call, begin, openFile, write, commit, abort, entryFor, chosen, writePlan, plan}
+use Rattle.rules.specs.Plans.{Call, begin, openFile, openRead, write, commit, abort, entryFor, chosen, writePlan, plan}
 use Rattle.rules.specs.Content.{decidedMap}
 use Rattle.rules.proofs.AllowedLaws.{MayAct, MayWrite, Allowed, running-undecided, running-foreign, own-record}
 use Rattle.rules.proofs.ChoiceLaws.{Free, chosen-free}
 use Rattle.rules.proofs.ContentLaws.{held-map}
 use Rattle.rules.proofs.RecoveryLaws.{decidedView, recovery-decided}
 use Rattle.atomicity.proofs.KeepLaws.{Keeps, keeps-self, keep-record, keep-slot}
-use Rattle.atomicity.proofs.PlanLaws.{KeptAlong, recovery-along, abort-along, begin-along, open-along}
+use Rattle.atomicity.proofs.PlanLaws.{KeptAlong, recovery-along, abort-along, begin-along, open-along, open-read-along}
 
 -- ------------------------------------------------------------------ an active client
 module _ {a : View} {s : Session} {k : ℕ} (w : MayAct a s k) where
@@ -58,15 +58,15 @@ module _ {a : View} {s : Session} {k f p : ℕ} {d : Bytes} (w : MayWrite a s k 
 
   slot-kept : (r : ℕ) → member r (a .headers f .map) ≡ false → Keeps a s k (changed a (setSlot f r d))
   slot-kept r unmapped = keep-slot self f r d
-      (λ q lt. rw (own-map act f (w .place .holder))
+      (λ q lt. rw (own-map act f (w .holder))
       (not-member (a .headers f .map) r q unmapped (rw (act .ready .laws .headers f (w .place .file) .map .size) lt)))
-      (λ i o. running-foreign (act .ready .runs i (o .active)) f (λ x. o .other (sym x ∙ w .place .holder)) (λ e. eqb (e .slot) r))
+      (λ i o. running-foreign (act .ready .runs i (o .active)) f (λ x. o .other (sym x ∙ w .holder)) (λ e. eqb (e .slot) r))
 
   -- The slot of an entry that there is.
   pub entry-unmapped : (e : Entry) → entryFor a k f p ≡ some e → member (e .slot) (a .headers f .map) ≡ false
   entry-unmapped e found =
       let x = find-has (forPage f p) (λ e. not (forFile f e && member (e .slot) (a .headers f .map))) (a .records k .entries) e found
-      (own-apart act f (w .place .file) (w .place .holder)) in
+      (own-apart act f (w .place .file) (w .holder)) in
       let file : forFile f e ≡ true = eq-eqb _ _ (entry-facts (own-record act) f p e found .file) in
       rw file at (not-true (forFile f e && member (e .slot) (a .headers f .map)) (x .1))
 
@@ -141,7 +141,8 @@ kept-lawful = along-map (λ b kept. kept .laws)
 pub plan-lawful : (a : View) (s : Session) (c : Call) → Allowed a s c → Along (a .table) (Lawful (a .table)) a (plan a s c)
 unfolding plan
 plan-lawful a s (begin k) w = kept-lawful (begin-along w)
-plan-lawful a s (openFile k f) w = kept-lawful (open-along w)
+plan-lawful a s (openFile k f) w = kept-lawful (open-along (w .either))
+plan-lawful a s (openRead k f) w = kept-lawful (open-read-along w)
 plan-lawful a s (write k f p d) w = kept-lawful (write-along w (entryFor a k f p) refl)
 plan-lawful a s (commit k) w = step (w .ready .laws) (decided-placed w) (kept-lawful (commit-along w))
 plan-lawful a s (abort k) w = kept-lawful (abort-along w)

@@ -9,7 +9,7 @@ use Rattle.interface.specs.Answers.{Answer, done, crashed, refused}
 use Rattle.lists.specs.Lists.{if_then_else_}
 use Rattle.sector.specs.Contents.{Bytes}
 use Rattle.rules.specs.Sessions.{noneActive}
-use Rattle.rules.specs.Plans.{Call, begin, openFile, write, commit, abort, Query, readPage}
+use Rattle.rules.specs.Plans.{Call, begin, openFile, openRead, write, commit, abort, Query, readPage}
 
 -- A client's pending pages, the paper's "slip": "pages with their bytes, each (file, page) at most once".
 abbrev pub Pending : Type 0
@@ -68,6 +68,7 @@ isDeciding (refused n) = false
 abbrev pub effect : Model → Call → Answer → Model
 effect m (begin k) x = m
 effect m (openFile k f) x = m
+effect m (openRead k f) x = m
 effect m (write k f p d) x = if isDone x then withPending m k (withPage f p d (m .pending k)) else m
 effect m (commit k) x = if isDeciding x then committed m k else m
 effect m (abort k) x = if isDone x then withPending m k noPending else m
@@ -78,6 +79,6 @@ settled (done n) m = m
 settled (crashed n) m = emptied m
 settled (refused n) m = m
 
--- "Any other call, refused or not, whose given session has no mark first empties every slip."
+-- "Any other call, refused or not, whose given session has no mark first empties every slip." A reading hold is no mark.
 unfoldable pub modelCall : Model → Session → Call → Answer → Model
 modelCall m s c x = settled x (effect (if noneActive s then emptied m else m) c x)

@@ -1,8 +1,9 @@
--- The bits of a word: of an or, of a word with one bit, and of a word's half.
+-- The bits of a word: of an or, of a word with one bit, and of a word's half. A bit that was set is set, one that was cleared is
+-- clear, and every other one is as before.
 -- Bit k of a word w is w / 2 ^ k % 2. An or of two words is an or of their bits, and 2 ^ i has bit i alone: division by 2 ^ k
--- leaves 1 where k is i, 0 where it is more, and an even number where it is less.
+-- leaves 1 where k is i, 0 where it is more, and an even number where it is less. Clearing a bit goes by halves.
 use mathlib.Core.Path.{_≡_, refl, sym, ap, _∙_}
-use mathlib.Core.Bool.{Bool, true, false, not, _||_, or-false}
+use mathlib.Core.Bool.{Bool, true, false, not, _||_, or-false, true≢false}
 use mathlib.Core.Logic.{_≢_}
 use Prim.Native.Nat.{ℕ, zero, suc, _+_, _*_, _-_, _/_, _%_, _^_, _<_, _≤_}
 use native.Mathlib.Nat.{min-zero, pow-suc}
@@ -11,9 +12,10 @@ use borrow.Author.Tests.{ne-eqb, ltb-true, ltb-false}
 use lib.Bits.{bitAnd, bitOr, and-mask, and-step, and-high, or-shr, or-mod}
 use lib.Dec.{eqb, ltb}
 use lib.Pow.{pow-add, pow-pos, pow-lt, shl-shr, high}
+use Rattle.lists.proofs.CaseLaws.{by-test, by-equal}
 use Rattle.lists.proofs.SearchLaws.{or-true}
 use Rattle.lists.proofs.TestLaws.{not-and, or-zero}
-use Rattle.byteset.specs.Bits.{hasBit}
+use Rattle.byteset.specs.Bits.{hasBit, withBit, withoutBit}
 
 -- ------------------------------------------------------------------ each bit by itself
 product-zero : (b p : ℕ) → 0 < p → eqb (b * p) 0 ≡ eqb b 0
@@ -85,3 +87,61 @@ bit-half w j =
     twice zero = refl
     twice (suc n) =
         ap not (ne-eqb (suc n * 2 + 0) 0 (λ (q : suc n * 2 + 0 ≡ 0). omega arith) ∙ sym (ne-eqb (suc n) 0 (λ (q : suc n ≡ 0). omega arith)))
+
+-- The lowest bit is set where the word is odd.
+odd-is : (w : ℕ) → hasBit w 0 ≡ true → w % 2 ≡ 1
+odd-is w e = by-equal (w % 2) 0 (λ z. absurd (true≢false (sym e ∙ bit-low w ∙ rw z))) (λ n. omega (arith, n))
+
+-- A word with bit i is at least 2 ^ i.
+pub has-le : (w i : ℕ) → hasBit w i ≡ true → 2 ^ i ≤ w
+has-le w zero e = let o : w % 2 ≡ 1 = odd-is w e in omega (arith, o)
+has-le w (suc i) e =
+    let p : 2 ^ suc i ≡ 2 ^ i * 2 = pow-suc 2 i in
+    let h : 2 ^ i ≤ w / 2 = has-le (w / 2) i (sym (bit-half w i) ∙ e) in
+    omega (arith, p, h)
+
+-- A bit that is set is taken out.
+taken-same : (w i : ℕ) → hasBit w i ≡ true → hasBit (w - 2 ^ i) i ≡ false
+taken-same w zero e =
+    let o : w % 2 ≡ 1 = odd-is w e in
+    let z : (w - 2 ^ 0) % 2 ≡ 0 = omega (arith, o) in
+    bit-low (w - 2 ^ 0) ∙ rw z
+taken-same w (suc i) e =
+    let p : 2 ^ suc i ≡ 2 ^ i * 2 = pow-suc 2 i in
+    let half : (w - 2 ^ suc i) / 2 ≡ w / 2 - 2 ^ i = omega (arith, p) in
+    bit-half (w - 2 ^ suc i) i ∙ rw half (taken-same (w / 2) i (sym (bit-half w i) ∙ e))
+
+taken-other : (w i j : ℕ) → hasBit w i ≡ true → j ≢ i → hasBit (w - 2 ^ i) j ≡ hasBit w j
+taken-other w zero zero e n = absurd (n refl)
+taken-other w zero (suc j) e n =
+    let o : w % 2 ≡ 1 = odd-is w e in
+    let half : (w - 2 ^ 0) / 2 ≡ w / 2 = omega (arith, o) in
+    bit-half (w - 2 ^ 0) j ∙ rw half (sym (bit-half w j))
+taken-other w (suc i) zero e n =
+    let p : 2 ^ suc i ≡ 2 ^ i * 2 = pow-suc 2 i in
+    let le : 2 ^ suc i ≤ w = has-le w (suc i) e in
+    let low : (w - 2 ^ suc i) % 2 ≡ w % 2 = omega (arith, p, le) in
+    bit-low (w - 2 ^ suc i) ∙ rw low (sym (bit-low w))
+taken-other w (suc i) (suc j) e n =
+    let p : 2 ^ suc i ≡ 2 ^ i * 2 = pow-suc 2 i in
+    let half : (w - 2 ^ suc i) / 2 ≡ w / 2 - 2 ^ i = omega (arith, p) in
+    bit-half (w - 2 ^ suc i) j
+    ∙ rw half (taken-other (w / 2) i j (sym (bit-half w i) ∙ e) (λ z. n (ap suc z)) ∙ sym (bit-half w j))
+
+-- ------------------------------------------------------------------ a bit set, a bit cleared
+module _ (w i : ℕ) where
+  pub with-same : hasBit (withBit w i) i ≡ true
+  unfolding withBit
+  with-same = bit-same w i
+
+  pub with-other : (j : ℕ) → j ≢ i → hasBit (withBit w i) j ≡ hasBit w j
+  unfolding withBit
+  with-other j n = bit-other w i j (λ e. n (sym e))
+
+  pub without-same : hasBit (withoutBit w i) i ≡ false
+  unfolding withoutBit
+  without-same = by-test (hasBit w i) (λ e. rw e (taken-same w i e)) (λ e. rw e e)
+
+  pub without-other : (j : ℕ) → j ≢ i → hasBit (withoutBit w i) j ≡ hasBit w j
+  unfolding withoutBit
+  without-other j n = by-test (hasBit w i) (λ e. rw e (taken-other w i j e n)) (λ e. rw e)

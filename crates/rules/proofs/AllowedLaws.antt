@@ -13,7 +13,7 @@ use Rattle.interface.specs.declared.Session.{Session}
 use Rattle.lists.specs.Lists.{first, every}
 use Rattle.sector.specs.Contents.{Bytes, Entry}
 use Rattle.sector.specs.Entries.{forFile}
-use Rattle.lists.proofs.ListLaws.{and-left, and-right, or-right, all-nil, all-cons, all-at, every-at, every-from, every-all}
+use Rattle.lists.proofs.ListLaws.{and-left, and-right, and-both, or-right, or-none, no-both, all-nil, all-cons, all-at, every-at, every-from, every-all}
 use Rattle.lists.proofs.CaseLaws.{by-test, by-equal, if-test}
 use Rattle.lists.proofs.SearchLaws.{or-true, every-implies, first-none}
 use Rattle.volume.specs.Places.{isClient, isFile, fileAt}
@@ -21,10 +21,10 @@ use Rattle.volume.specs.Views.{View}
 use Rattle.volume.specs.Lawful.{lawful}
 use Rattle.volume.proofs.PlaceLaws.{IsFile, client-of, file-of}
 use Rattle.volume.proofs.LawfulLaws.{RecordFacts, HeaderFacts, Lawful, lawful-facts, record-facts, entry-facts}
-use Rattle.rules.specs.Sessions.{holds, isActive, markFits, sessionFits}
+use Rattle.rules.specs.Sessions.{holds, holdsEither, isActive, isReading, isReadByOther, markFits, holdFits, readsFit, sessionFits}
 use Rattle.rules.specs.Recovery.{isDecided}
-use Rattle.rules.specs.Plans.{Call, begin, openFile, write, commit, abort, Query, readPage, entryFor, slotFor, freeSlots, heldByOrphan}
-use Rattle.rules.specs.Refusals.{heldByOther, isNewPage, pageMissing, tests, queryTests}
+use Rattle.rules.specs.Plans.{Call, begin, openFile, openRead, write, commit, abort, Query, readPage, entryFor, slotFor, freeSlots, heldByOrphan}
+use Rattle.rules.specs.Refusals.{heldByOther, isNewPage, pageMissing, readOnly, tests, queryTests}
 
 -- ------------------------------------------------------------------ sessions
 -- Client j is marked.
@@ -57,31 +57,62 @@ running-foreign {a} {j} r f n t =
     by-equal (e .file) f (λ y. absurd (n (rw y at held))) (λ y. rw (ne-eqb (e .file) f y)))
     (a .records j .entries) (r .mine)
 
+-- ------------------------------------------------------------------ reading holds
+-- Client j holds file f for reading.
+pub record Reader (s : Session) (j f : ℕ) : Type 0 where
+  pub low : 1 ≤ j
+  pub high : j ≤ 4
+  pub first : 1 ≤ f
+  pub last : f ≤ 16
+  pub on : isReading s j f ≡ true
+
+-- What its hold relies on: it is active, and the file is there and has no holder.
+pub record Shared (a : View) (s : Session) (j f : ℕ) : Type 0 where
+  pub active : isActive s j ≡ true
+  pub file : f ≤ length (a .table .files)
+  pub free : a .headers f .holder ≡ 0
+
 -- Neither refusal 1 nor refusal 2.
 pub record Ready (a : View) (s : Session) : Type 0 where
   pub laws : Lawful (a .table) a
   pub runs : (j : ℕ) → Active s j → Running a j
+  pub reads : (j f : ℕ) → Reader s j f → Shared a s j f
 
 pub ready : (a : View) (s : Session) → lawful a ≡ true → sessionFits a s ≡ true → Ready a s
-unfolding sessionFits markFits
+unfolding sessionFits markFits readsFit holdFits
 ready a s l fits = record {
   laws = lawful-facts a l;
   runs = λ j w.
-      let e : markFits a j ≡ true = or-right (not (isActive s j)) (markFits a j)
-      (every-from (λ k. not (isActive s k) || markFits a k) 4 1 fits j (w .low) (omega arith)) (rw (w .on)) in
+      let e : markFits a j ≡ true = or-right (not (isActive s j)) (markFits a j) (and-left _ _ (client j (w .low) (w .high))) (rw (w .on)) in
       record { client = leb-true _ _ (all-at _ 0 e); state = eqb-true _ _ (all-at _ 1 e); mine = all-at _ 2 e };
+  reads = λ j f x.
+      let e : holdFits a s j f ≡ true = or-right (not (isReading s j f)) (holdFits a s j f)
+      (every-from (λ g. not (isReading s j g) || holdFits a s j g) 16 1 (and-right (not (isActive s j) || markFits a j) _ (client j (x .low) (x .high))) f (x .first) (omega (arith, x .last)))
+      (rw (x .on)) in
+      record { active = all-at _ 0 e; file = leb-true _ _ (all-at _ 1 e); free = eqb-true _ _ (all-at _ 2 e) };
 }
+  where
+    client : (j : ℕ) → 1 ≤ j → j ≤ 4 → ((not (isActive s j) || markFits a j) && readsFit a s j) ≡ true
+    client j lo hi = every-from (λ k. (not (isActive s k) || markFits a k) && readsFit a s k) 4 1 fits j lo (omega arith)
 
--- A session whose marked clients have a transaction running fits.
-pub running-fits : (a : View) (s : Session) → ((j : ℕ) → Active s j → Running a j) → sessionFits a s ≡ true
-unfolding sessionFits markFits
-running-fits a s runs = every-all _ 4 1
-    (λ j lo hi. by-test (isActive s j)
+-- A session fits whose marked clients have a transaction running, and whose reading holds have what they rely on.
+pub running-fits : (a : View) (s : Session) → ((j : ℕ) → Active s j → Running a j) → ((j f : ℕ) → Reader s j f → Shared a s j f)
+    → sessionFits a s ≡ true
+unfolding sessionFits markFits readsFit holdFits
+running-fits a s runs reads = every-all _ 4 1
+    (λ j lo hi. and-both _ _ (by-test (isActive s j)
     (λ on.
     let r : Running a j = runs j (record { low = lo; high = omega arith; on = on }) in
     or-true (not (isActive s j)) (markFits a j)
     (all-cons _ (le-leb _ _ (r .client)) (all-cons _ (eq-eqb _ _ (r .state)) (all-cons _ (r .mine) all-nil))))
     (λ off. rw off))
+    (every-all _ 16 1
+    (λ f first last. by-test (isReading s j f)
+    (λ on.
+    let r : Shared a s j f = reads j f (record { low = lo; high = omega arith; first = first; last = omega arith; on = on }) in
+    or-true (not (isReading s j f)) (holdFits a s j f)
+    (all-cons _ (r .active) (all-cons _ (le-leb _ _ (r .file)) (all-cons _ (eq-eqb _ _ (r .free)) all-nil))))
+    (λ off. rw off))))
 
 -- ------------------------------------------------------------------ each call
 -- Begin.
@@ -97,19 +128,25 @@ pub record MayAct (a : View) (s : Session) (k : ℕ) : Type 0 where
   pub active : Active s k
   pub running : Running a k
 
-pub record MayOpen (a : View) (s : Session) (k f : ℕ) : Type 0 where
+-- Open for reading, and what every open has.
+pub record MayOpenRead (a : View) (s : Session) (k f : ℕ) : Type 0 where
   pub act : MayAct a s k
   pub file : IsFile (a .table) f
   pub free : heldByOther a s k f ≡ false
 
+pub record MayOpen (a : View) (s : Session) (k f : ℕ) : Type 0 where
+  pub either : MayOpenRead a s k f
+  pub unread : isReadByOther s k f ≡ false
+
 pub record MayRead (a : View) (s : Session) (k f p : ℕ) : Type 0 where
   pub act : MayAct a s k
   pub file : IsFile (a .table) f
-  pub holder : a .headers f .holder ≡ k
+  pub hold : holdsEither a s k f ≡ true
   pub page : p < fileAt (a .table) f .pages
 
 pub record MayWrite (a : View) (s : Session) (k f p : ℕ) (d : Bytes) : Type 0 where
   pub place : MayRead a s k f p
+  pub holder : a .headers f .holder ≡ k
   pub size : length d ≡ 256
   pub room : (isNewPage a k f p && eqb (length (freeSlots a k f)) 0) ≡ false
   pub few : (isNewPage a k f p && eqb (length (a .records k .entries)) 62) ≡ false
@@ -117,6 +154,7 @@ pub record MayWrite (a : View) (s : Session) (k f p : ℕ) (d : Bytes) : Type 0 
 abbrev pub Allowed : View → Session → Call → Type 0
 Allowed a s (begin k) = MayBegin a s k
 Allowed a s (openFile k f) = MayOpen a s k f
+Allowed a s (openRead k f) = MayOpenRead a s k f
 Allowed a s (write k f p d) = MayWrite a s k f p d
 Allowed a s (commit k) = MayAct a s k
 Allowed a s (abort k) = MayAct a s k
@@ -127,6 +165,16 @@ Answerable a s (readPage k f p) = MayRead a s k f p
 -- The record of an active client.
 pub own-record : {a : View} {s : Session} {k : ℕ} → MayAct a s k → RecordFacts (a .table) (a .records k)
 own-record {k = k} w = record-facts (w .ready .laws .records k (w .active .low) (w .running .client))
+
+-- A client that may read a file which it doesn't hold for writing holds it for reading.
+pub read-holder : {a : View} {s : Session} {k f p : ℕ} → MayRead a s k f p → holds a k f ≡ false → Reader s k f
+read-holder {a} {s} {k} {f} w e = record {
+  low = w .act .active .low;
+  high = w .act .active .high;
+  first = w .file .low;
+  last = omega (arith, w .file .high, w .act .ready .laws .table .files .1);
+  on = or-right (holds a k f) (isReading s k f) (w .hold) e;
+}
 
 -- The slot that a read finds is one of the file's: given by an entry that fits, or by the map.
 pub slot-below : {a : View} {s : Session} {k f p : ℕ} → MayRead a s k f p → (o : Option Entry) → entryFor a k f p ≡ o
@@ -178,6 +226,7 @@ module _ (ok : Bool) (a : View) (s : Session) where
   unfolding tests
   ordered (begin k) = record { rest = _; is = refl; high = refl }
   ordered (openFile k f) = record { rest = _; is = refl; high = refl }
+  ordered (openRead k f) = record { rest = _; is = refl; high = refl }
   ordered (write k f p d) = record { rest = _; is = refl; high = refl }
   ordered (commit k) = record { rest = _; is = refl; high = refl }
   ordered (abort k) = record { rest = _; is = refl; high = refl }
@@ -197,14 +246,24 @@ module _ (ok : Bool) (a : View) (s : Session) (law : ok ≡ true → lawful a �
       let w : Active s k = record { low = i .0; high = omega (arith, r .laws .table .four, i .1); on = not-false _ q } in
       record { ready = r; active = w; running = r .runs k w }
 
-  reading : (k f p : ℕ) → MayAct a s k → not (isFile (a .table) f) ≡ false → not (holds a k f) ≡ false → pageMissing a f p .1 ≡ false
-      → MayRead a s k f p
-  reading k f p w file holder page = record {
+  opening : (k f : ℕ) → MayAct a s k → not (isFile (a .table) f) ≡ false → heldByOther a s k f ≡ false → MayOpenRead a s k f
+  opening k f w file free = record { act = w; file = file-of (a .table) f (not-false _ file); free = free }
+
+  reading : (k f p : ℕ) → MayAct a s k → not (isFile (a .table) f) ≡ false → not (holdsEither a s k f) ≡ false
+      → pageMissing a f p .1 ≡ false → MayRead a s k f p
+  reading k f p w file hold page = record {
     act = w;
     file = file-of (a .table) f (not-false _ file);
-    holder = eqb-true _ _ (not-false _ holder);
+    hold = not-false _ hold;
     page = ltb-true _ _ (not-false _ page);
   }
+
+  -- A file that is held, and not for reading only, is held for writing.
+  writing : (k f : ℕ) → not (holdsEither a s k f) ≡ false → readOnly a s k f .1 ≡ false → a .headers f .holder ≡ k
+  writing k f hold only = by-test (holds a k f) (λ e. eqb-true _ _ e)
+      (λ e.
+      let read : isReading s k f ≡ true = or-right (holds a k f) (isReading s k f) (not-false _ hold) e in
+      no-both true refl (rw (read, e) at only))
 
   -- A question that isn't refused.
   pub answerable : (q : Query) → first (queryTests ok a s q) ≡ 0 → Answerable a s q
@@ -228,19 +287,21 @@ module _ (ok : Bool) (a : View) (s : Session) (law : ok ≡ true → lawful a �
       record { ready = is-ready (no 0 refl e) (no 1 refl e); low = i .0; high = i .1; off = no 3 refl e }
   allowed (openFile k f) e =
       let no = first-none (tests ok a s (openFile k f)) in
-      record {
-        act = acting k (is-ready (no 0 refl e) (no 1 refl e)) (no 2 refl e) (no 3 refl e);
-        file = file-of (a .table) f (not-false _ (no 4 refl e));
-        free = no 5 refl e;
-      }
+      let free = or-none (heldByOther a s k f) (isReadByOther s k f) (no 5 refl e) in
+      let act = acting k (is-ready (no 0 refl e) (no 1 refl e)) (no 2 refl e) (no 3 refl e) in
+      record { either = opening k f act (no 4 refl e) (free .0); unread = free .1 }
+  allowed (openRead k f) e =
+      let no = first-none (tests ok a s (openRead k f)) in
+      opening k f (acting k (is-ready (no 0 refl e) (no 1 refl e)) (no 2 refl e) (no 3 refl e)) (no 4 refl e) (no 5 refl e)
   allowed (write k f p d) e =
       let no = first-none (tests ok a s (write k f p d)) in
       record {
         place = reading k f p (acting k (is-ready (no 0 refl e) (no 1 refl e)) (no 2 refl e) (no 3 refl e))
-            (no 4 refl e) (no 5 refl e) (no 6 refl e);
-        size = eqb-true _ _ (not-false _ (no 7 refl e));
-        room = no 8 refl e;
-        few = no 9 refl e;
+            (no 4 refl e) (no 5 refl e) (no 7 refl e);
+        holder = writing k f (no 5 refl e) (no 6 refl e);
+        size = eqb-true _ _ (not-false _ (no 8 refl e));
+        room = no 9 refl e;
+        few = no 10 refl e;
       }
   allowed (commit k) e = acts k e
   allowed (abort k) e = acts k e

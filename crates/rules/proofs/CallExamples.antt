@@ -7,6 +7,7 @@ use lib.ListN.{replicate, set}
 use Rattle.interface.specs.declared.Session.{Session}
 use Rattle.interface.specs.Answers.{newSession, Answer, done, crashed, refused, found, queryRefused}
 use Rattle.lists.specs.Lists.{all, first}
+use Rattle.byteset.specs.Bits.{withBit}
 use Rattle.sector.specs.Contents.{Bytes, idleRecord, openRecord}
 use Rattle.sector.specs.Sectors.{sector, storeAt, padded}
 use Rattle.sector.specs.Encoding.{fileBytes, encodeTable, entryBytes, encodeRecord, encodeHeader}
@@ -17,12 +18,12 @@ use Rattle.volume.specs.Stores.{Store, cutAt, allStores}
 use Rattle.volume.specs.Lawful.{lawful}
 use Rattle.volume.specs.Sound.{encoded, canonical, sound}
 use Rattle.volume.specs.Format.{repeated, newFiles, newVolume}
-use Rattle.rules.specs.Sessions.{markFits, sessionFits}
+use Rattle.rules.specs.Sessions.{isReading, markFits, readsFit, sessionFits}
 use Rattle.rules.specs.Recovery.{heldFiles, recovery}
-use Rattle.rules.specs.Plans.{Call, begin, commit, abort, readPage, beginPlan, plan}
+use Rattle.rules.specs.Plans.{Call, begin, openRead, commit, abort, readPage, beginPlan, plan}
 use Rattle.rules.specs.Refusals.{tests, queryTests}
 use Rattle.rules.specs.Calls.{After, executed, callBy, call, queryBy, query, partOf, queryPart}
-use Rattle.rules.proofs.ExampleViews.{active1, active2, active12, entry, rec, header, at}
+use Rattle.rules.proofs.ExampleViews.{reads, active1, active2, active12, entry, rec, header, at}
 
 -- The bytes of one sector.
 abbrev page : ℕ → Bytes
@@ -40,13 +41,16 @@ abbrev ends : Answer → Session → Volume → After
 ends x s v = record { answer = x; session = s; volume = v }
 
 -- "makes exactly the first so many, answers cut with the number of stores made, and hands back a new session. Otherwise it
--- answers done with that number": allowances 0 to 3 for two stores, and 0 for none.
-budgets : map (λ n. executed blank active12 (commit 1) n two) (0 ∷ 1 ∷ 2 ∷ 3 ∷ []) ++ (executed blank active12 (commit 1) 0 [] ∷ [])
+-- answers done with that number": allowances 0 to 3 for two stores, and 0 for none. The new session has no reading hold; the other
+-- has those of client 2, which doesn't commit.
+budgets : let s = reads active12 (1 ∷ 2 ∷ 0 ∷ 0 ∷ []) in
+    let s′ = reads active2 (0 ∷ 2 ∷ 0 ∷ 0 ∷ []) in
+    map (λ n. executed blank s (commit 1) n two) (0 ∷ 1 ∷ 2 ∷ 3 ∷ []) ++ (executed blank s (commit 1) 0 [] ∷ [])
     ≡ ends (crashed 0) newSession blank
     ∷ ends (crashed 1) newSession (page 1 ++ page 0)
-    ∷ ends (done 2) active2 (page 1 ++ page 2)
-    ∷ ends (done 2) active2 (page 1 ++ page 2)
-    ∷ ends (done 0) active2 blank
+    ∷ ends (done 2) s′ (page 1 ++ page 2)
+    ∷ ends (done 2) s′ (page 1 ++ page 2)
+    ∷ ends (done 0) s′ blank
     ∷ []
 unfolding cutAt storeAt
 budgets = refl
@@ -84,7 +88,7 @@ tiny = cutAt (newVolume (record { sectors = 6; clients = 1; files = record { pag
 parts-read : map (λ p. queryPart tiny active1 (readPage 1 1 p)) (0 ∷ 1 ∷ 2 ∷ [])
     ++ (queryPart tiny newSession (readPage 1 1 0) ∷ queryPart (set tiny 0 0) active1 (readPage 1 1 0) ∷ [])
     ≡ page 5 ∷ page 4 ∷ [] ∷ [] ∷ [] ∷ []
-unfolding query queryTests first sessionFits markFits sound lawful canonical encoded all view tableOf recordIn headerIn decodeTable decodeFiles decodeRecord decodeEntries decodeHeader sector cutAt storeAt newVolume newFiles repeated sectorAfter encodeTable fileBytes encodeRecord entryBytes encodeHeader padded
+unfolding query queryTests first sessionFits markFits readsFit isReading sound lawful canonical encoded all view tableOf recordIn headerIn decodeTable decodeFiles decodeRecord decodeEntries decodeHeader sector cutAt storeAt newVolume newFiles repeated sectorAfter encodeTable fileBytes encodeRecord entryBytes encodeHeader padded
 parts-read = refl
 
 -- With holder 0, and with an idle record as well.
@@ -102,8 +106,13 @@ called : map (call tiny active1 (abort 1)) (2 ∷ 1 ∷ [])
     ∷ ends (refused 5) newSession tiny
     ∷ ends (refused 1) active1 (set tiny 0 0)
     ∷ []
-unfolding call tests plan recovery heldFiles allStores first sessionFits markFits sound lawful canonical encoded all view tableOf recordIn headerIn decodeTable decodeFiles decodeRecord decodeEntries decodeHeader sector cutAt storeAt newVolume newFiles repeated sectorAfter encodeTable fileBytes encodeRecord entryBytes encodeHeader padded
+unfolding call tests plan recovery heldFiles allStores first sessionFits markFits readsFit isReading sound lawful canonical encoded all view tableOf recordIn headerIn decodeTable decodeFiles decodeRecord decodeEntries decodeHeader sector cutAt storeAt newVolume newFiles repeated sectorAfter encodeTable fileBytes encodeRecord entryBytes encodeHeader padded
 called = refl
+
+-- The session after it is the one for this volume: client 1 holds the file there and notes no hold; where nobody holds it, it does.
+reading-noted : map (λ v. executed v active1 (openRead 1 1) 0 [] .session) (tiny ∷ half ∷ []) ≡ active1 ∷ reads active1 (1 ∷ 0 ∷ 0 ∷ 0 ∷ []) ∷ []
+unfolding isReading withBit view tableOf recordIn headerIn decodeTable decodeFiles decodeRecord decodeEntries decodeHeader sector cutAt storeAt newVolume newFiles repeated sectorAfter encodeTable fileBytes encodeRecord entryBytes encodeHeader padded
+reading-noted = refl
 
 -- The stores are those for the session given: client 1, marked, isn't recovered first.
 session-counts : callBy 0 tiny active1 (begin 1) 1 ≡ ends (done 1) active1 (storeAt tiny 1 (encodeRecord openRecord))

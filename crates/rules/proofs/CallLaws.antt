@@ -33,7 +33,7 @@ passed v s c e = record { fine = fine v (passed-first (ordered (sound v) (view v
 -- as its budget allows, which are fewer.
 pub call-case : (P : After → Type 0) (v : Volume) (s : Session) (c : Call) (budget : ℕ) → let xs = callStores v s c in
     ((n : ℕ) → (Fine v → sessionFits (view v) s ≡ true → Later n) → P (record { answer = refused n; session = s; volume = v }))
-    → (Passed v s c → length xs ≤ budget → P (record { answer = done (length xs); session = sessionAfter s c; volume = cutAt v xs budget }))
+    → (Passed v s c → length xs ≤ budget → P (record { answer = done (length xs); session = sessionAfter (view v) s c; volume = cutAt v xs budget }))
     → (Passed v s c → budget < length xs → P (record { answer = crashed budget; session = newSession; volume = cutAt v xs budget }))
     → P (call v s c budget)
 unfolding call
@@ -47,7 +47,7 @@ call-case P v s c budget r d k = go (first (tests (sound v) (view v) s c)) refl
 -- None of its tests holds, and the budget is enough.
 pub call-done : (v : Volume) (s : Session) (c : Call) (budget : ℕ) → first (tests (sound v) (view v) s c) ≡ 0
     → let xs = callStores v s c in length xs ≤ budget
-    → call v s c budget ≡ record { answer = done (length xs); session = sessionAfter s c; volume = cutAt v xs budget }
+    → call v s c budget ≡ record { answer = done (length xs); session = sessionAfter (view v) s c; volume = cutAt v xs budget }
 unfolding call
 call-done v s c budget e le = rw (e, le-leb _ _ le)
 

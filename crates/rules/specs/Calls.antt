@@ -28,7 +28,7 @@ pub record After : Type 0 where
 abbrev pub executed : Volume → Session → Call → (budget : ℕ) → List Store → After
 executed v s c budget xs =
     if leb (length xs) budget
-    then record { answer = done (length xs); session = sessionAfter s c; volume = cutAt v xs budget }
+    then record { answer = done (length xs); session = sessionAfter (view v) s c; volume = cutAt v xs budget }
     else record { answer = crashed budget; session = newSession; volume = cutAt v xs budget }
 
 -- The stores of a call that isn't refused.
@@ -40,7 +40,7 @@ abbrev pub callBy : ℕ → Volume → Session → Call → (budget : ℕ) → A
 callBy zero v s c budget = executed v s c budget (callStores v s c)
 callBy (suc n) v s c budget = record { answer = refused (suc n); session = s; volume = v }
 
--- Begin, open, write, commit and abort.
+-- Begin, open for writing and for reading, write, commit and abort.
 unfoldable pub call : Volume → Session → Call → (budget : ℕ) → After
 call v s c budget = callBy (first (tests (sound v) (view v) s c)) v s c budget
 

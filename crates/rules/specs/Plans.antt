@@ -11,13 +11,14 @@ use Rattle.sector.specs.Contents.{Bytes, File, Entry, Record, Header, openRecor
 use Rattle.sector.specs.Entries.{forPage, givesSlot}
 use Rattle.volume.specs.Places.{fileAt}
 use Rattle.volume.specs.Views.{View, Update, setRecord, setHeader, setSlot}
-use Rattle.rules.specs.Sessions.{setActive, isOrphaned, holds}
+use Rattle.rules.specs.Sessions.{setActive, withReading, withoutReading, withoutReader, isOrphaned, holds, holdsEither}
 use Rattle.rules.specs.Recovery.{isDecided, mapAfter, recovery}
 
--- The calls that store, with their arguments.
+-- The calls that may store, with their arguments. To open a file is to open it for writing; M-102 adds opening it for reading.
 pub data Call : Type 0 where
   begin : (client : ℕ) → Call
   openFile : (client : ℕ) → (file : ℕ) → Call
+  openRead : (client : ℕ) → (file : ℕ) → Call
   write : (client : ℕ) → (file : ℕ) → (page : ℕ) → Bytes → Call
   commit : (client : ℕ) → Call
   abort : (client : ℕ) → Call
@@ -82,6 +83,15 @@ openPlan a s k f =
     then recovery redo a holder ++ (setHeader f (record { holder = k; map = mapAfter redo a holder f }) ∷ [])
     else setHeader f (record { holder = k; map = a .headers f .map }) ∷ []
 
+-- M-102: "Opening for reading a file that the kiln already holds does nothing." Else no store, "apart from recovering an interrupted
+-- holder first".
+unfoldable pub openReadPlan : View → Session → ℕ → ℕ → List Update
+openReadPlan a s k f =
+    let holder = a .headers f .holder in
+    if holdsEither a s k f then []
+    else if heldByOrphan a s f then recovery (isDecided a holder) a holder
+    else []
+
 -- "if record k has (f, p), store the page in that real sector. Else take" the slot chosen for it; "store the page there; store
 -- record k with the entry appended."
 abbrev pub writePlan : View → ℕ → ℕ → ℕ → Bytes → Option Entry → List Update
@@ -94,14 +104,18 @@ writePlan a k f p d none =
 unfoldable pub plan : View → Session → Call → List Update
 plan a s (begin k) = beginPlan a s k
 plan a s (openFile k f) = openPlan a s k f
+plan a s (openRead k f) = openReadPlan a s k f
 plan a s (write k f p d) = writePlan a k f p d (entryFor a k f p)
 plan a s (commit k) = setRecord k (decidedRecord (a .records k)) ∷ recovery true a k
 plan a s (abort k) = recovery false a k
 
--- The session that a call hands back when it is done: begin marks k, commit and abort unmark k.
-abbrev pub sessionAfter : Session → Call → Session
-sessionAfter s (begin k) = setActive s k true
-sessionAfter s (openFile k f) = s
-sessionAfter s (write k f p d) = s
-sessionAfter s (commit k) = setActive s k false
-sessionAfter s (abort k) = setActive s k false
+-- The session that a call hands back when it is done: begin marks k, commit and abort unmark k. M-102: "Commit and abort end" k's
+-- reading holds. A client that opens a file for writing, "its reading hold ends then". Opening for reading notes the hold, unless k
+-- "already holds" the file.
+abbrev pub sessionAfter : View → Session → Call → Session
+sessionAfter a s (begin k) = setActive s k true
+sessionAfter a s (openFile k f) = withoutReading s k f
+sessionAfter a s (openRead k f) = if holdsEither a s k f then s else withReading s k f
+sessionAfter a s (write k f p d) = s
+sessionAfter a s (commit k) = withoutReader (setActive s k false) k
+sessionAfter a s (abort k) = withoutReader (setActive s k false) k

@@ -1,6 +1,6 @@
--- Refusals 1 to 12, each once: its number and its condition. Then the list of those that a call or a question tests, read
--- downwards. "The lowest number that applies is given".
-use mathlib.Core.Bool.{Bool, not, _&&_}
+-- Refusals 1 to 12 and 16, each once: its number and its condition. Then the list of those that a call or a question tests, read
+-- downwards. "The lowest number that applies is given", but 16 is "tested after 8 and before 9".
+use mathlib.Core.Bool.{Bool, not, _&&_, _||_}
 use mathlib.Core.List.{List, [], _∷_, _++_}
 use Prim.Native.Nat.{ℕ}
 use lib.Dec.{eqb, ltb}
@@ -11,10 +11,10 @@ use Rattle.sector.specs.Layout.{entryLimit}
 use Rattle.sector.specs.Contents.{Bytes, File, Entry, Record, Header}
 use Rattle.volume.specs.Places.{isClient, isFile, fileAt}
 use Rattle.volume.specs.Views.{View}
-use Rattle.rules.specs.Sessions.{isActive, holds, sessionFits}
-use Rattle.rules.specs.Plans.{Call, begin, openFile, write, commit, abort, Query, readPage, entryFor, freeSlots}
+use Rattle.rules.specs.Sessions.{isActive, isReading, isReadByOther, holds, holdsEither, sessionFits}
+use Rattle.rules.specs.Plans.{Call, begin, openFile, openRead, write, commit, abort, Query, readPage, entryFor, freeSlots}
 
--- "another marked kiln holds f"
+-- "another marked kiln holds f", for writing.
 abbrev pub heldByOther : View → Session → ℕ → ℕ → Bool
 heldByOther a s k f =
     let holder = a .headers f .holder in
@@ -33,7 +33,8 @@ abbrev pub notSound : (ok : Bool) → Test
 notSound ok = (1, not ok)
 
 -- "session marks a kiln above T, one whose record isn't open, or one whose record has an entry for a file whose header doesn't
--- name that kiln"
+-- name that kiln"; M-102: "also covers a reading hold of an unmarked kiln, of a file above F, or of a file whose header names a
+-- holder".
 abbrev pub badSession : View → Session → Test
 badSession a s = (2, not (sessionFits a s))
 
@@ -53,13 +54,21 @@ notActive s k = (5, not (isActive s k))
 abbrev pub fileMissing : View → ℕ → Test
 fileMissing a f = (6, not (isFile (a .table) f))
 
--- "open: another marked kiln holds f"
+-- "open: another marked kiln holds f"; M-102: "also covers writing while another kiln reads".
 abbrev pub fileInUse : View → Session → ℕ → ℕ → Test
-fileInUse a s k f = (7, heldByOther a s k f)
+fileInUse a s k f = (7, heldByOther a s k f || isReadByOther s k f)
 
--- "read, write: k doesn't hold f"
-abbrev pub notHeld : View → ℕ → ℕ → Test
-notHeld a k f = (8, not (holds a k f))
+-- M-102: "and reading while another marked kiln writes".
+abbrev pub fileWritten : View → Session → ℕ → ℕ → Test
+fileWritten a s k f = (7, heldByOther a s k f)
+
+-- "read, write: k doesn't hold f"; M-102: "accepts either hold".
+abbrev pub notHeld : View → Session → ℕ → ℕ → Test
+notHeld a s k f = (8, not (holdsEither a s k f))
+
+-- M-102: "a write to a file held only for reading".
+abbrev pub readOnly : View → Session → ℕ → ℕ → Test
+readOnly a s k f = (16, isReading s k f && not (holds a k f))
 
 -- "page not below P"
 abbrev pub pageMissing : View → ℕ → ℕ → Test
@@ -85,13 +94,25 @@ clientTests ok a s k = notSound ok ∷ badSession a s ∷ clientMissing a k ∷ 
 abbrev pub activeTests : (ok : Bool) → View → Session → ℕ → List Test
 activeTests ok a s k = clientTests ok a s k ++ (notActive s k ∷ [])
 
--- Of a file that a client opens.
-abbrev pub fileTests : View → Session → ℕ → ℕ → List Test
-fileTests a s k f = fileMissing a f ∷ fileInUse a s k f ∷ []
+-- Of a file that a client opens for writing.
+abbrev pub openTests : View → Session → ℕ → ℕ → List Test
+openTests a s k f = fileMissing a f ∷ fileInUse a s k f ∷ []
 
--- Of a page that a client reads or writes.
-abbrev pub pageTests : View → ℕ → ℕ → ℕ → List Test
-pageTests a k f p = fileMissing a f ∷ notHeld a k f ∷ pageMissing a f p ∷ []
+-- Of a file that it opens for reading.
+abbrev pub openReadTests : View → Session → ℕ → ℕ → List Test
+openReadTests a s k f = fileMissing a f ∷ fileWritten a s k f ∷ []
+
+-- Of a file that it reads or writes.
+abbrev pub heldTests : View → Session → ℕ → ℕ → List Test
+heldTests a s k f = fileMissing a f ∷ notHeld a s k f ∷ []
+
+-- Of a page that it reads.
+abbrev pub readTests : View → Session → ℕ → ℕ → ℕ → List Test
+readTests a s k f p = heldTests a s k f ++ (pageMissing a f p ∷ [])
+
+-- Of a page that it writes.
+abbrev pub writeTests : View → Session → ℕ → ℕ → ℕ → List Test
+writeTests a s k f p = heldTests a s k f ++ (readOnly a s k f ∷ pageMissing a f p ∷ [])
 
 -- Of where a page that is written goes. `isNew`: it has no entry yet.
 abbrev pub slotTests : (isNew : Bool) → View → ℕ → ℕ → Bytes → List Test
@@ -100,11 +121,12 @@ slotTests isNew a k f d = badPageLength d ∷ noFreeSlot isNew a k f ∷ recordF
 -- A call's tests.
 unfoldable pub tests : (ok : Bool) → View → Session → Call → List Test
 tests ok a s (begin k) = clientTests ok a s k ++ (alreadyActive s k ∷ [])
-tests ok a s (openFile k f) = activeTests ok a s k ++ fileTests a s k f
-tests ok a s (write k f p d) = activeTests ok a s k ++ (pageTests a k f p ++ slotTests (isNewPage a k f p) a k f d)
+tests ok a s (openFile k f) = activeTests ok a s k ++ openTests a s k f
+tests ok a s (openRead k f) = activeTests ok a s k ++ openReadTests a s k f
+tests ok a s (write k f p d) = activeTests ok a s k ++ (writeTests a s k f p ++ slotTests (isNewPage a k f p) a k f d)
 tests ok a s (commit k) = activeTests ok a s k
 tests ok a s (abort k) = activeTests ok a s k
 
 -- A question's.
 unfoldable pub queryTests : (ok : Bool) → View → Session → Query → List Test
-queryTests ok a s (readPage k f p) = activeTests ok a s k ++ pageTests a k f p
+queryTests ok a s (readPage k f p) = activeTests ok a s k ++ readTests a s k f p

@@ -1,0 +1,121 @@
+-- What `Readers` asks, on a small volume: a model that shows another page, a read that hands back nothing, and a page that changes
+-- while it is read each contradict it; and each claim has its instance. The checker evaluates both sides.
+use mathlib.Core.Path.{_≡_, refl, sym, ap}
+use mathlib.Core.Bool.{Bool, true, false, false≢true}
+use mathlib.Core.List.{List, [], _∷_, map}
+use Prim.Native.Nat.{ℕ}
+use native.Mathlib.Omega.{arith}
+use lib.Dec.{eqb}
+use lib.ListN.{getD, replicate, set}
+use Rattle.interface.specs.declared.Session.{Session}
+use Rattle.interface.specs.Answers.{newSession, done}
+use Rattle.lists.specs.Lists.{all, first}
+use Rattle.byteset.specs.Bits.{withBit}
+use Rattle.sector.specs.Contents.{Bytes, openRecord}
+use Rattle.sector.specs.Entries.{redone}
+use Rattle.sector.specs.Sectors.{sector, storeAt, padded}
+use Rattle.sector.specs.Shapes.{filesOf}
+use Rattle.sector.specs.Encoding.{fileBytes, encodeTable, entryBytes, encodeRecord, encodeHeader}
+use Rattle.sector.specs.Decoding.{decodeFiles, decodeTable, decodeEntries, decodeRecord, decodeHeader}
+use Rattle.volume.specs.Places.{sectorAfter, IsClient, IsPage}
+use Rattle.volume.specs.Views.{View}
+use Rattle.volume.specs.Volumes.{Volume, tableOf, recordIn, headerIn, slotIn, view}
+use Rattle.volume.specs.Stores.{cutAt, allStores}
+use Rattle.volume.specs.Lawful.{lawful}
+use Rattle.volume.specs.Sound.{encoded, canonical, sound}
+use Rattle.volume.specs.Format.{lengthFits, shapeFits, endFits, formatTests, repeated, newFiles, newVolume, format}
+use Rattle.rules.specs.Sessions.{isReading, markFits, holdFits, readsFit, sessionFits}
+use Rattle.rules.specs.Recovery.{heldFiles, recovery}
+use Rattle.rules.specs.Plans.{begin, openRead, commit, readPage, beginPlan, openReadPlan, plan}
+use Rattle.rules.specs.Refusals.{tests, queryTests}
+use Rattle.rules.specs.Content.{decidedContent}
+use Rattle.rules.specs.Calls.{call, query}
+use Rattle.rules.proofs.ExampleViews.{reads, active1, active12}
+use Rattle.atomicity.specs.Model.{Model, newModel, modelCall}
+use Rattle.atomicity.specs.Runs.{Step, calls, asks, Configuration, started, stepped, ranOver}
+use Rattle.atomicity.specs.NonVacuity.{calledAll, answersTo}
+use Rattle.atomicity.specs.Readers.{givenTo, ReadersShown, StepSteady, Steadily, ReadersSteady, ReadsThrough, SteadyWhile, sharing, ReadersShare}
+use Rattle.atomicity.proofs.StatementExamples.{shape, table, fresh, page, pending7, run}
+
+-- The session that a step is given: that of the configuration, or a new one after a crash.
+given-to : (r : Configuration) → map (givenTo r) (calls false (begin 1) 3 ∷ calls true (begin 1) 3 ∷ asks false (readPage 1 1 0) ∷ asks true (readPage 1 1 0) ∷ [])
+    ≡ r .session ∷ newSession ∷ r .session ∷ newSession ∷ []
+given-to r = refl
+
+-- ------------------------------------------------------------------ what contradicts the claims
+-- Both clients have begun, and nobody holds a file for writing. Both read file 1.
+abbrev begun : Volume
+begun = storeAt (storeAt fresh 1 (encodeRecord openRecord)) 2 (encodeRecord openRecord)
+
+abbrev both : Session
+both = reads active12 (1 ∷ 1 ∷ 0 ∷ 0 ∷ [])
+
+-- Client 2 is one of the table, and page 0 of file 1 is.
+client2 : IsClient table 2
+client2 = record { low = omega arith; high = omega arith }
+
+page0 : IsPage table 1 0
+page0 = record { file = record { low = omega arith; high = omega arith }; below = omega arith }
+
+-- Bytes that begin with 7, and others.
+abbrev startsWith7 : Bytes → Bool
+startsWith7 d = eqb (getD d 0 1) 7
+
+-- A model that shows sevens, where the content is zeros.
+wrong-shown : ReadersShown table (run begun both (record { pages = λ f p. page 7; pending = newModel .pending })) (calls false (begin 1) 3) → ⊥
+unfolding sessionFits markFits readsFit holdFits isReading sound lawful canonical encoded all view tableOf recordIn headerIn slotIn decodeTable decodeFiles decodeRecord decodeEntries decodeHeader sector storeAt newVolume newFiles repeated sectorAfter encodeTable fileBytes encodeRecord entryBytes encodeHeader padded
+wrong-shown h = false≢true (ap startsWith7 (sym (h 2 1 0 client2 page0 refl .0)))
+
+-- A read that is refused, as the volume isn't sound: it hands back nothing.
+wrong-part : ReadersShown table (run (set begun 0 0) both newModel) (calls false (begin 1) 3) → ⊥
+unfolding query queryTests first sessionFits markFits readsFit holdFits isReading sound lawful canonical encoded all view tableOf recordIn headerIn slotIn decodeTable decodeFiles decodeRecord decodeEntries decodeHeader sector storeAt newVolume newFiles repeated sectorAfter encodeTable fileBytes encodeRecord entryBytes encodeHeader padded
+wrong-part h = false≢true (ap (λ (d : Bytes). eqb (getD d 0 1) 0) (h 2 1 0 client2 page0 refl .1))
+
+-- Client 1 commits sevens for a page that client 2 reads, before and after it: what client 2 is shown changes. Such pages aren't
+-- pending in any run.
+page-changes : StepSteady table (run begun both pending7) (calls false (commit 1) 3) → ⊥
+unfolding stepped modelCall call tests plan recovery heldFiles redone cutAt allStores first sessionFits markFits readsFit holdFits isReading sound lawful canonical encoded all view tableOf recordIn headerIn slotIn decodeTable decodeFiles decodeRecord decodeEntries decodeHeader sector storeAt newVolume newFiles repeated sectorAfter encodeTable fileBytes encodeRecord entryBytes encodeHeader padded
+page-changes h = false≢true (ap startsWith7 (sym (h 2 1 0 client2 page0 refl refl .1)))
+
+-- Each step is asked about, the later ones from what the earlier left.
+changes-later : Steadily table (run begun both pending7) (asks false (readPage 2 1 0) ∷ calls false (commit 1) 3 ∷ []) → ⊥
+unfolding stepped
+changes-later h = page-changes (h .2 .1)
+
+-- ------------------------------------------------------------------ while a client holds
+-- Client 2 reads through client 1's commit; not through a crash before it, and not through its own commit.
+reads-through : ReadsThrough (run begun both newModel) 2 1 (calls false (commit 1) 3 ∷ [])
+unfolding stepped modelCall call tests plan recovery heldFiles redone cutAt allStores first sessionFits markFits readsFit holdFits isReading sound lawful canonical encoded all view tableOf recordIn headerIn slotIn decodeTable decodeFiles decodeRecord decodeEntries decodeHeader sector storeAt newVolume newFiles repeated sectorAfter encodeTable fileBytes encodeRecord entryBytes encodeHeader padded
+reads-through = (refl, refl, tt)
+
+not-through-crash : ReadsThrough (run begun both newModel) 2 1 (calls true (begin 1) 3 ∷ []) → ⊥
+unfolding isReading
+not-through-crash h = false≢true (h .0)
+
+not-through-commit : ReadsThrough (run begun both newModel) 2 1 (calls false (commit 2) 3 ∷ []) → ⊥
+unfolding stepped modelCall call tests plan recovery heldFiles redone cutAt allStores first sessionFits markFits readsFit holdFits isReading sound lawful canonical encoded all view tableOf recordIn headerIn slotIn decodeTable decodeFiles decodeRecord decodeEntries decodeHeader sector storeAt newVolume newFiles repeated sectorAfter encodeTable fileBytes encodeRecord entryBytes encodeHeader padded
+not-through-commit h = false≢true (h .1)
+
+-- ------------------------------------------------------------------ the claims hold of this volume
+steady-here : ReadersSteady → (steps : List Step) → Steadily table (started fresh) steps
+unfolding format formatTests lengthFits shapeFits endFits first all filesOf sectorAfter
+steady-here h = h (replicate 2304 0xEE) 2 shape refl
+
+while-here : SteadyWhile → (before steps : List Step) → let r = ranOver (started fresh) before in ReadsThrough r 2 1 steps
+    → decidedContent (view (ranOver r steps .volume)) 1 0 ≡ decidedContent (view (r .volume)) 1 0
+unfolding format formatTests lengthFits shapeFits endFits first all filesOf sectorAfter
+while-here h before steps w = h (replicate 2304 0xEE) 2 shape refl before steps 2 1 0 client2 page0 w .0
+
+-- Clients 1 and 2 share file 1, with a budget of 1 for each call.
+sharing-is : sharing 1 2 3 ≡ begin 1 ∷ begin 2 ∷ openRead 1 3 ∷ openRead 2 3 ∷ []
+sharing-is = refl
+
+shared : (answersTo (started fresh) 1 (sharing 1 2 1) ≡ done 1 ∷ done 1 ∷ done 0 ∷ done 0 ∷ [])
+    × (calledAll (started fresh) 1 (sharing 1 2 1) .session ≡ both)
+unfolding modelCall call tests plan beginPlan openReadPlan withBit recovery heldFiles cutAt allStores first sessionFits markFits readsFit holdFits isReading sound lawful canonical encoded all view tableOf recordIn headerIn slotIn decodeTable decodeFiles decodeRecord decodeEntries decodeHeader sector storeAt newVolume newFiles repeated sectorAfter encodeTable fileBytes encodeRecord entryBytes encodeHeader padded
+shared = (refl, refl)
+
+share-here : ReadersShare → answersTo (started fresh) 1 (sharing 1 2 1) ≡ done 1 ∷ done 1 ∷ done 0 ∷ done 0 ∷ []
+unfolding format formatTests lengthFits shapeFits endFits first all filesOf sectorAfter
+share-here h = h (replicate 2304 0xEE) 2 shape refl 1 2 1 1 (record { low = omega arith; high = omega arith }) client2 (λ e. omega arith)
+    (record { low = omega arith; high = omega arith }) (omega arith) .0

@@ -1,0 +1,204 @@
+-- Readers are steady. Only a commit changes the model's pages, by the pending pages of its client; those are of files that it holds,
+-- and nobody holds a file that is read. For the same reason a reader has no page of the file pending itself, so it is shown the
+-- model's page, which is the decided content. None of read's tests applies to it, so a read hands that back.
+use mathlib.Core.Path.{_≡_, refl, sym, ap, _∙_}
+use mathlib.Core.Bool.{Bool, true, false, _||_}
+use mathlib.Core.List.{List, [], _∷_, _++_}
+use mathlib.Core.Option.{Option, none, Option·getD}
+use Prim.Native.Nat.{ℕ, _≤_, _<_}
+use native.Mathlib.Omega.{arith}
+use borrow.Author.Tests.{lt-ltb}
+use lib.Dec.{eqb}
+use lib.ListN.{length}
+use Rattle.interface.specs.declared.Session.{Session}
+use Rattle.interface.specs.Answers.{done, refused}
+use Rattle.lists.specs.Lists.{if_then_else_, first}
+use Rattle.sector.specs.Contents.{Bytes, Table}
+use Rattle.sector.specs.Entries.{forPage}
+use Rattle.lists.proofs.ListLaws.{no-both}
+use Rattle.lists.proofs.CaseLaws.{if-test}
+use Rattle.lists.proofs.SearchLaws.{or-true, find-none}
+use Rattle.volume.specs.Places.{fileAt, IsClient, IsFile, IsPage}
+use Rattle.volume.specs.Views.{View}
+use Rattle.volume.specs.Volumes.{Volume, view}
+use Rattle.volume.specs.Sound.{sound}
+use Rattle.volume.specs.Format.{tableFor, format}
+use Rattle.volume.proofs.PlaceLaws.{is-client, is-file}
+use Rattle.volume.proofs.SoundLaws.{fine, fine-sound, sound-lawful}
+use Rattle.volume.proofs.FormatLaws.{new-fine, FormatFacts, format-done}
+use Rattle.rules.specs.Sessions.{isReading, noneActive}
+use Rattle.rules.specs.Plans.{Call, begin, openFile, openRead, write, commit, abort, readPage}
+use Rattle.rules.specs.Refusals.{queryTests}
+use Rattle.rules.specs.Content.{decidedContent}
+use Rattle.rules.specs.Calls.{After, call, query, queryPart}
+use Rattle.rules.proofs.SessionLaws.{new-unread}
+use Rattle.rules.proofs.CallLaws.{call-case, query-answered}
+use Rattle.rules.proofs.AllowedLaws.{Active, Reader, Ready, Allowed, ready, running-foreign}
+use Rattle.atomicity.specs.Model.{Pending, Model, overlaid, shown, emptied, effect, settled, modelCall}
+use Rattle.atomicity.specs.Runs.{Step, calls, asks, Configuration, started, given, stepped, ranOver}
+use Rattle.atomicity.specs.Readers.{StepSteady, Steadily, ReadersSteady, ReadsThrough, SteadyWhile}
+use Rattle.atomicity.proofs.KeepLaws.{pendingIn}
+use Rattle.atomicity.proofs.RelationLaws.{Matches, faithful}
+use Rattle.atomicity.proofs.StepLaws.{call-matches, call-table, read-pending, query-matches}
+use Rattle.atomicity.proofs.NonVacuity.{Steady, new-steady, given-steady, call-steady}
+use Rattle.atomicity.proofs.Theorem.{Related, given-matches, new-related, startedAs, started-related}
+
+-- ------------------------------------------------------------------ a file that is read
+module _ {a : View} {s : Session} {k f : ℕ} (ok : Ready a s) (x : Reader s k f) where
+  reader-active : Active s k
+  reader-active = record { low = x .low; high = x .high; on = ok .reads k f x .active }
+
+  -- No active client has a page of it pending.
+  none-pending : (j p : ℕ) → Active s j → pendingIn a j f p ≡ none
+  none-pending j p w = rw (find-none (forPage f p) (a .records j .entries)
+      (running-foreign (ok .runs j w) f (λ e. omega (arith, w .low, e, ok .reads k f x .free)) (λ e. eqb (e .page) p)))
+
+  reader-shown : (m : Model) → Matches a s m → (p : ℕ) → shown m (readPage k f p) ≡ m .pages f p
+  reader-shown m h p =
+      ap (λ (l : Pending). overlaid l (m .pages) f p) (read-pending a s m h k reader-active)
+      ∙ ap (λ (o : Option Bytes). Option·getD o (m .pages f p)) (none-pending k p reader-active)
+
+-- None of the tests of its read applies.
+reader-passes : {v : Volume} {s : Session} {k f p : ℕ} → Steady v s → Ready (view v) s → Reader s k f → IsClient (view v .table) k
+    → IsPage (view v .table) f p → first (queryTests (sound v) (view v) s (readPage k f p)) ≡ 0
+unfolding first queryTests
+reader-passes {v} {s} {k} {f} {p} h ok x c i =
+    let t : Table = view v .table in
+    rw (
+      fine-sound v (h .volume),
+      h .session,
+      is-client t k (c .low) (c .high),
+      ok .reads k f x .active,
+      is-file t f (i .file),
+      or-true (eqb (view v .headers f .holder) k) (isReading s k f) (x .on),
+      lt-ltb p (fileAt t f .pages) (i .below),
+    )
+
+-- ------------------------------------------------------------------ a call
+module _ (v : Volume) (s : Session) (m : Model) (h : Matches (view v) s m) (ok : Ready (view v) s)
+    (k f p : ℕ) (x : Reader s k f) where
+  abbrev m′ : Model
+  m′ = if noneActive s then emptied m else m
+
+  start : m′ .pages f p ≡ m .pages f p
+  start = if-test (λ (n : Model). n .pages f p ≡ m .pages f p) (noneActive s) (emptied m) m (λ e. refl) (λ e. refl)
+
+  refused-stays : (c : Call) (n : ℕ) → effect m′ c (refused n) .pages f p ≡ m .pages f p
+  refused-stays (begin j) n = start
+  refused-stays (openFile j g) n = start
+  refused-stays (openRead j g) n = start
+  refused-stays (write j g q d) n = start
+  refused-stays (commit j) n = start
+  refused-stays (abort j) n = start
+
+  done-stays : (c : Call) (n : ℕ) → Allowed (view v) s c → effect m′ c (done n) .pages f p ≡ m .pages f p
+  done-stays (begin j) n w = start
+  done-stays (openFile j g) n w = start
+  done-stays (openRead j g) n w = start
+  done-stays (write j g q d) n w = start
+  done-stays (commit j) n w =
+      let own = faithful (view v) s m h .tracked j (w .active .low) (w .active .high) .active (w .active .on) in
+      ap (λ (l : Pending). overlaid l (m′ .pages) f p) own
+      ∙ ap (λ (o : Option Bytes). Option·getD o (m′ .pages f p)) (none-pending ok x j p (w .active)) ∙ start
+  done-stays (abort j) n w = start
+
+  -- A crash hands back a session without holds.
+  pages-stay : (c : Call) (budget : ℕ) → let y = call v s c budget in
+      isReading (y .session) k f ≡ true → modelCall m s c (y .answer) .pages f p ≡ m .pages f p
+  unfolding modelCall
+  pages-stay c budget = call-case
+      (λ (y : After). isReading (y .session) k f ≡ true → settled (y .answer) (effect m′ c (y .answer)) .pages f p ≡ m .pages f p) v s c budget
+      (λ n e on. refused-stays c n) (λ w le on. done-stays c _ (w .allowed)) (λ w lt on. no-both _ on (new-unread k f))
+
+-- ------------------------------------------------------------------ a step
+-- A configuration that is related to its model and steady, and the session that a step is given.
+module _ {t : Table} {r : Configuration} (h : Related t r) (ok : Steady (r .volume) (r .session)) (crash : Bool) where
+  matches : Matches (view (r .volume)) (given crash (r .session)) (r .model)
+  matches = given-matches _ _ _ crash (h .matches)
+
+  steady : Steady (r .volume) (given crash (r .session))
+  steady = given-steady crash ok
+
+  is-ready : Ready (view (r .volume)) (given crash (r .session))
+  is-ready = ready _ _ (sound-lawful (r .volume) (fine-sound (r .volume) (steady .volume))) (steady .session)
+
+  reader : {k f p : ℕ} → IsClient t k → IsPage t f p → isReading (given crash (r .session)) k f ≡ true → Reader (given crash (r .session)) k f
+  reader c i on = record {
+    low = c .low;
+    high = omega (arith, c .high, rw (h .table) at (is-ready .laws .table .four));
+    first = i .file .low;
+    last = omega (arith, i .file .high, rw (h .table) at (is-ready .laws .table .files .1));
+    on = on;
+  }
+
+  content : (f p : ℕ) → IsPage t f p → decidedContent (view (r .volume)) f p ≡ r .model .pages f p
+  content f p i = h .matches .pages f p (rw (h .table) (i .file)) (rw (h .table) (i .below))
+
+  readers-shown : (k f p : ℕ) → IsClient t k → IsPage t f p → isReading (given crash (r .session)) k f ≡ true
+      → (shown (r .model) (readPage k f p) ≡ decidedContent (view (r .volume)) f p)
+      × (queryPart (r .volume) (given crash (r .session)) (readPage k f p) ≡ decidedContent (view (r .volume)) f p)
+  readers-shown k f p c i on =
+      let s = given crash (r .session) in
+      let x : Reader (given crash (r .session)) k f = reader c i on in
+      let is = reader-shown is-ready x (r .model) matches p ∙ sym (content f p i) in
+      let found = query-answered (r .volume) s (readPage k f p) (reader-passes steady is-ready x (rw (h .table) c) (rw (h .table) i)) in
+      let agrees = rw found at (query-matches (r .volume) s (r .model) matches (readPage k f p)) in
+      (is, agrees .1 ∙ is)
+
+-- ------------------------------------------------------------------ every list of steps
+pub steadily : (t : Table) (r : Configuration) (steps : List Step) → Related t r → Steady (r .volume) (r .session) → Steadily t r steps
+unfolding stepped
+steadily t r [] h ok = tt
+steadily t r (calls crash c budget ∷ xs) h ok =
+    (readers-shown h ok crash, same, steadily t (stepped r (calls crash c budget)) xs next fit)
+  where
+    s : Session
+    s = given crash (r .session)
+
+    next : Related t (stepped r (calls crash c budget))
+    next = record {
+      table = call-table (r .volume) s c budget ∙ h .table;
+      matches = call-matches (r .volume) s (r .model) (matches h ok crash) c budget;
+    }
+
+    fit : Steady (stepped r (calls crash c budget) .volume) (stepped r (calls crash c budget) .session)
+    fit = call-steady (steady h ok crash) c budget
+
+    same : StepSteady t r (calls crash c budget)
+    same k f p client page on after =
+        let stay = pages-stay (r .volume) s (r .model) (matches h ok crash) (is-ready h ok crash) k f p (reader h ok crash client page on) c budget after in
+        let kept = content next fit false f p page ∙ stay ∙ sym (content h ok crash f p page) in
+        (kept, readers-shown next fit false k f p client page after .0 ∙ kept ∙ sym (readers-shown h ok crash k f p client page on .0))
+steadily t r (asks crash q ∷ xs) h ok =
+    (readers-shown h ok crash, (λ k f p client page on after. (refl, refl)), steadily t r xs h ok)
+
+-- From any sound volume with the content that it has.
+pub steadily-from : (v : Volume) (steps : List Step) → sound v ≡ true → Steadily (view v .table) (startedAs v) steps
+steadily-from v steps ok = steadily (view v .table) (startedAs v) steps (started-related v) (new-steady (fine v ok))
+
+-- From a formatted volume.
+pub readers-steady : ReadersSteady
+readers-steady v T l d steps =
+    let t : Table = tableFor (length v) T l in
+    let x : FormatFacts t (format v T l .volume) = format-done v T l d in
+    steadily t (started (format v T l .volume)) steps (rw (x .volume) (new-related t (x .facts))) (rw (x .volume) (new-steady (new-fine t (x .facts))))
+
+-- ------------------------------------------------------------------ over several steps
+through : (t : Table) (r : Configuration) (steps : List Step) → Steadily t r steps → (k f p : ℕ) → IsClient t k → IsPage t f p
+    → ReadsThrough r k f steps
+    → (decidedContent (view (ranOver r steps .volume)) f p ≡ decidedContent (view (r .volume)) f p)
+    × (shown (ranOver r steps .model) (readPage k f p) ≡ shown (r .model) (readPage k f p))
+through t r [] h k f p c i w = (refl, refl)
+through t r (x ∷ xs) h k f p c i w =
+    let now = h .1 k f p c i (w .0) (w .1) in
+    let later = through t (stepped r x) xs (h .2) k f p c i (w .2) in
+    (later .0 ∙ now .0, later .1 ∙ now .1)
+
+-- Steadiness of a list is steadiness of its end.
+steady-after : (t : Table) (r : Configuration) (before steps : List Step) → Steadily t r (before ++ steps) → Steadily t (ranOver r before) steps
+steady-after t r [] steps h = h
+steady-after t r (x ∷ xs) steps h = steady-after t (stepped r x) xs steps (h .2)
+
+pub steady-while : SteadyWhile
+steady-while v T l d before steps k f p c i w =
+    through _ _ steps (steady-after _ (started (format v T l .volume)) before steps (readers-steady v T l d (before ++ steps))) k f p c i w
