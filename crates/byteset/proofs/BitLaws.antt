@@ -11,7 +11,7 @@ use native.Mathlib.Omega.{arith}
 use borrow.Author.Tests.{ne-eqb, ltb-true, ltb-false}
 use lib.Bits.{bitAnd, bitOr, and-mask, and-step, and-high, or-shr, or-mod}
 use lib.Dec.{eqb, ltb}
-use lib.Pow.{pow-add, pow-pos, pow-lt, shl-shr, high}
+use lib.Pow.{pow-add, pow-pos, pow-lt, shl-shr, shl-exact, high}
 use Rattle.lists.proofs.CaseLaws.{by-test, by-equal}
 use Rattle.lists.proofs.SearchLaws.{or-true}
 use Rattle.lists.proofs.TestLaws.{not-and, or-zero}
@@ -69,6 +69,12 @@ bit-same w k = bit-or w (2 ^ k) k ∙ or-true (hasBit w k) _ (bit-is (2 ^ k) k �
 
 pub bit-other : (w i k : ℕ) → i ≢ k → hasBit (bitOr w (2 ^ i)) k ≡ hasBit w k
 bit-other w i k n = bit-or w (2 ^ i) k ∙ rw (bit-is (2 ^ i) k, other-bit i k n) (or-false (hasBit w k))
+
+-- In a word of w bits 1 is shifted to bit i, and none is lost.
+pub one-shifted : (i w : ℕ) → i < w → 1 * 2 ^ i % 2 ^ w ≡ 2 ^ i
+one-shifted i w h =
+    let z : 1 * 2 ^ i ≡ 2 ^ i = omega arith in
+    shl-exact {a = 1} 1 i w (omega arith) (omega arith) ∙ z
 
 -- ------------------------------------------------------------------ by halves
 -- The lowest bit, and those above it in the word's half.

@@ -9,17 +9,14 @@ use borrow.Author.Tests.{eqb-true, eqb-false, eq-eqb, ne-eqb}
 use lib.Bits.{bitOr}
 use lib.Dec.{eqb}
 use lib.ListN.{length, getD, set, replicate}
-use lib.Pow.{shl-exact}
 use lib.Seq.{getD-set-same, getD-set-other}
 use Rattle.lists.proofs.ListLaws.{zeros-at}
 use Rattle.byteset.specs.Bits.{hasBit}
 use Rattle.byteset.specs.Set.{noBytes, hasByte, withByte}
-use Rattle.byteset.proofs.BitLaws.{bit-same, bit-other}
+use Rattle.byteset.proofs.BitLaws.{bit-same, bit-other, one-shifted}
 
 pub mask-is : (x r : ℕ) → r ≡ x % 64 → 1 * 2 ^ r % 18446744073709551616 ≡ 2 ^ (x % 64)
-mask-is x r e =
-    let z : 1 * 2 ^ (x % 64) ≡ 2 ^ (x % 64) = omega arith in
-    rw e (shl-exact {a = 1} 1 (x % 64) 64 (omega arith) (omega arith) ∙ z)
+mask-is x r e = rw e (one-shifted (x % 64) 64 (omega arith))
 
 -- A set whose words are zero has nothing in it.
 pub has-zeros : (n y : ℕ) → hasByte (replicate n 0) y ≡ false

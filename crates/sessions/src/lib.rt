@@ -1,90 +1,13 @@
-// A session's marks, and whether they fit the volume: what refusal 2 asks.
-use interface::Session;
-use sector::State;
-ghost use mathlib.Core.Path.{_≡_};
-ghost use mathlib.Core.Bool.{not, _||_};
-ghost use Prim.Native.Nat.{_≤_};
-ghost use Rattle.lists.specs.Lists.{every};
-ghost use Rattle.sector.specs.Contents.{Table, Entry, Record};
-ghost use Rattle.volume.specs.Places.{IsClient};
-ghost use Rattle.volume.specs.Views.{View};
-ghost use Rattle.volume.specs.Volumes.{view};
-ghost use Rattle.volume.specs.WellFormed.{WellFormed};
-ghost use Rattle.rules.specs.Sessions.{isActive, setActive, holds, markFits, sessionFits};
+// A session's marks and reading holds, and whether they fit the volume: what refusal 2 asks.
+mod fits;
+mod holds;
+mod marks;
 
-// Whether client k has a transaction running.
-pub fn is_active(s: Session, k: u8) -> bool
-    requires { ⌜ (1 ≤ k) × (k ≤ 4) ⌝ }
-    ensures { λ r. ⌜ r ≡ isActive s k ⌝ }
-{
-    let at = sector::wide(k) - 1;
-    s.active[at]
-}
-
-// The session with client k marked, or not.
-pub fn set_active(mut s: Session, k: u8, on: bool) -> Session
-    requires { ⌜ (1 ≤ k) × (k ≤ 4) ⌝ }
-    ensures { λ r. ⌜ r ≡ setActive s k on ⌝ }
-{
-    let at = sector::wide(k) - 1;
-    s.active[at] = on;
-    s
-}
-
-// Whether client k holds the file of every entry of its record.
-fn entries_held(v: &[u8], k: u8) -> bool
-    requires { ⌜ WellFormed (now v) × IsClient (view (now v) .table) k ⌝ }
-    ensures { λ r. ⌜ r ≡ every (λ e. holds (view (now (v .entry))) k (e .file)) (view (now (v .entry)) .records k .entries) ⌝ }
-{
-    let n = sector::wide(volume::entry_count(v, k));
-    let mut i = 0;
-    while i < n {
-        let f = volume::entry_file(v, k, i);
-        if volume::holder(v, f) != k {
-            return false;
-        }
-        i += 1;
-    }
-    true
-}
-
-// Whether client k may be marked: it exists, its record is open, and it holds the files of its entries.
-fn mark_fits(v: &[u8], k: u8) -> bool
-    requires { ⌜ WellFormed (now v) × (1 ≤ k) ⌝ }
-    ensures { λ r. ⌜ r ≡ markFits (view (now (v .entry))) k ⌝ }
-{
-    if volume::clients(v) < k {
-        return false;
-    }
-    if volume::state(v, k) != State::OPEN {
-        return false;
-    }
-    entries_held(v, k)
-}
-
-// Whether client k is not marked, or may be.
-fn client_fits(v: &[u8], s: Session, k: u8) -> bool
-    requires { ⌜ WellFormed (now v) × (1 ≤ k) × (k ≤ 4) ⌝ }
-    ensures { λ r. ⌜ r ≡ (not (isActive s k) || markFits (view (now (v .entry))) k) ⌝ }
-{
-    if is_active(s, k) {
-        return mark_fits(v, k);
-    }
-    true
-}
-
-// Whether the session fits the volume. Ruled out: a mark above the last client accepted (`must-fail/skips_client_4`); a
-// test of the records' states alone (`rules/must-fail/stray_entry_accepted`).
-pub fn session_fits(v: &[u8], s: Session) -> bool
-    requires { ⌜ WellFormed (now v) ⌝ }
-    ensures { λ r. ⌜ r ≡ sessionFits (view (now (v .entry))) s ⌝ }
-{
-    let mut k: u8 = 1;
-    while k < 5 {
-        if !client_fits(v, s, k) {
-            return false;
-        }
-        k += 1;
-    }
-    true
-}
+pub use fits::session_fits;
+pub use holds::is_read_by_other;
+pub use holds::is_reading;
+pub use holds::with_reading;
+pub use holds::without_reader;
+pub use holds::without_reading;
+pub use marks::is_active;
+pub use marks::set_active;

@@ -1,4 +1,4 @@
--- Open's updates by the file's holder, and that the header stored after a recovery has the map which the plan says.
+-- The updates of both opens by the file's holder, and that the header stored after a recovery has the map which the plan says.
 use mathlib.Core.Path.{_≡_, sym, ap, _∙_}
 use mathlib.Core.Bool.{Bool, true, false}
 use mathlib.Core.List.{List, [], _∷_, _++_}
@@ -7,6 +7,7 @@ use Prim.Native.Nat.{ℕ}
 use native.Mathlib.Omega.{arith}
 use borrow.Author.Tests.{eq-eqb, ne-eqb}
 use Rattle.interface.specs.declared.Session.{Session}
+use Rattle.lists.proofs.CaseLaws.{by-test}
 use Rattle.sector.specs.Contents.{Header}
 use Rattle.volume.specs.Places.{IsClient, IsFile}
 use Rattle.volume.specs.Views.{View, Update, setHeader, changedBy}
@@ -14,8 +15,9 @@ use Rattle.volume.specs.Lawful.{headerFits}
 use Rattle.volume.specs.Volumes.{Volume, view}
 use Rattle.volume.specs.WellFormed.{WellFormed}
 use Rattle.volume.proofs.LawfulLaws.{HeaderFacts, header-facts}
+use Rattle.rules.specs.Sessions.{isReading}
 use Rattle.rules.specs.Recovery.{isDecided, mapAfter, recovery}
-use Rattle.rules.specs.Plans.{openFile, openPlan, plan}
+use Rattle.rules.specs.Plans.{openFile, openRead, openPlan, openReadPlan, plan}
 use Rattle.rules.specs.Refusals.{heldByOther}
 use Rattle.rules.proofs.AllowedLaws.{holder-orphaned}
 use Rattle.stores.specs.declared.Run.{Run}
@@ -42,6 +44,23 @@ module _ (a : View) (s : Session) (k f : ℕ) where
   unfolding plan openPlan
   held-plan facts free n z = rw (ne-eqb _ k n, holder-orphaned a s k f facts free n, ne-eqb _ 0 z)
 
+  -- Open for reading makes none where k or nobody holds the file. A file that k reads has no holder.
+  pub own-read-plan : a .headers f .holder ≡ k → plan a s (openRead k f) ≡ []
+  unfolding plan openReadPlan
+  own-read-plan e = rw (eq-eqb _ k e)
+
+  pub free-read-plan : a .headers f .holder ≢ k → a .headers f .holder ≡ 0 → plan a s (openRead k f) ≡ []
+  unfolding plan openReadPlan
+  free-read-plan n e = by-test (isReading s k f) (λ on. rw (ne-eqb _ k n, on)) (λ off. rw (ne-eqb _ k n, off, eq-eqb _ 0 e))
+
+  held-read-plan : HeaderFacts (a .table) (a .records) f (a .headers f) → heldByOther a s k f ≡ false
+      → (isReading s k f ≡ true → a .headers f .holder ≡ 0) → a .headers f .holder ≢ k → a .headers f .holder ≢ 0
+      → plan a s (openRead k f) ≡ recovery (isDecided a (a .headers f .holder)) a (a .headers f .holder)
+  unfolding plan openReadPlan
+  held-read-plan facts free unread n z =
+      let off : isReading s k f ≡ false = by-test (isReading s k f) (λ on. absurd (z (unread on))) (λ e. e) in
+      rw (ne-eqb _ k n, off, holder-orphaned a s k f facts free n, ne-eqb _ 0 z)
+
 -- Another client, h, holds the file.
 module _ {v : Volume} (formed : WellFormed v) {k f h : ℕ} (file : IsFile (view v .table) f)
     (fits : headerFits (view v .records) (view v .table) f (view v .headers f) ≡ true) (e : view v .headers f .holder ≡ h)
@@ -64,6 +83,13 @@ module _ {v : Volume} (formed : WellFormed v) {k f h : ℕ} (file : IsFile (view
   whole : (s : Session) → heldByOther (view v) s k f ≡ false → plan (view v) s (openFile k f)
       ≡ recovery redo (view v) h ++ (setHeader f (record { holder = k; map = mapAfter redo (view v) h f }) ∷ [])
   whole s free = rw e at (held-plan (view v) s k f facts free (rw e n) some)
+
+  pub open-read-made : {w : Volume} {r q : Run} → UpdatesMade v r (recoveryNow (view v) h) w q → (s : Session)
+      → heldByOther (view v) s k f ≡ false → (isReading s k f ≡ true → view v .headers f .holder ≡ 0)
+      → UpdatesMade v r (plan (view v) s (openRead k f)) w q
+  open-read-made m s free unread =
+      let is : plan (view v) s (openRead k f) ≡ recovery redo (view v) h = rw e at (held-read-plan (view v) s k f facts free unread (rw e n) some) in
+      rw is (rw now at m)
 
   module _ {w : Volume} {r q : Run} (m : UpdatesMade v r (recoveryNow (view v) h) w q)
       (done : q .crashed ≡ false → AllMade v (recoveryNow (view v) h) w) where

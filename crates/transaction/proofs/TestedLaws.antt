@@ -14,7 +14,7 @@ use Rattle.volume.specs.Views.{View}
 use Rattle.volume.specs.Lawful.{headerFits}
 use Rattle.volume.proofs.LawfulLaws.{entry-facts, header-fits}
 use Rattle.rules.specs.Plans.{entryFor, chosen}
-use Rattle.rules.proofs.AllowedLaws.{MayBegin, MayAct, MayOpen, MayWrite, own-record}
+use Rattle.rules.proofs.AllowedLaws.{MayBegin, MayAct, MayOpenRead, MayWrite, own-record}
 use Rattle.rules.proofs.ChoiceLaws.{chosen-free}
 use Rattle.transaction.specs.Tested.{NewPage}
 
@@ -25,7 +25,7 @@ module _ {a : View} {s : Session} {k : ℕ} where
   pub act-client : MayAct a s k → IsClient (a .table) k
   act-client w = record { low = w .active .low; high = w .running .client }
 
-  pub open-header : {f : ℕ} → MayOpen a s k f → headerFits (a .records) (a .table) f (a .headers f) ≡ true
+  pub open-header : {f : ℕ} → MayOpenRead a s k f → headerFits (a .records) (a .table) f (a .headers f) ≡ true
   open-header {f} w = header-fits (a .table) (a .records) f (a .headers f) (w .act .ready .laws .headers f (w .file))
 
   module _ {f p : ℕ} {d : Bytes} (w : MayWrite a s k f p d) where

@@ -9,6 +9,7 @@ mod write;
 pub use abort::abort_stores;
 pub use begin::begin_stores;
 pub use commit::commit_stores;
+pub use open::open_read_stores;
 pub use open::open_stores;
 pub use write::write_again;
 pub use write::write_new;

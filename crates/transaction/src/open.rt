@@ -1,4 +1,4 @@
-// The stores of open.
+// The stores of open, for writing and for reading.
 ghost use mathlib.Core.Path.{_≡_};
 ghost use mathlib.Core.Bool.{true, false};
 ghost use mathlib.Core.List.{[], _∷_};
@@ -8,7 +8,8 @@ ghost use Rattle.volume.specs.Views.{setHeader};
 ghost use Rattle.volume.specs.Lawful.{headerFits};
 ghost use Rattle.volume.specs.Volumes.{view};
 ghost use Rattle.volume.specs.WellFormed.{WellFormed};
-ghost use Rattle.rules.specs.Plans.{openFile, plan};
+ghost use Rattle.rules.specs.Sessions.{isReading};
+ghost use Rattle.rules.specs.Plans.{openFile, openRead, plan};
 ghost use Rattle.rules.specs.Refusals.{heldByOther};
 ghost use Rattle.stores.specs.Runs.{newRun, UpdatesMade};
 use stores::Run;
@@ -46,4 +47,24 @@ pub fn open_stores(v: &mut [u8], k: u8, f: u8, budget: u8) -> Run
     }
     let run = recovery::recover(v, holder, start);
     claim(v, k, f, run)
+}
+
+// The stores of open for reading, in any session in which no other active client holds f, and in which k reads f only where
+// it has no holder: none if k or nobody holds it. Another holder, which is orphaned then, is recovered.
+pub fn open_read_stores(v: &mut [u8], k: u8, f: u8, budget: u8) -> Run
+    requires { ⌜ WellFormed (now v) × IsFile (view (now v) .table) f
+        × (headerFits (view (now v) .records) (view (now v) .table) f (view (now v) .headers f) ≡ true) ⌝ }
+    ensures { λ r. ⌜ ((s : Session) → heldByOther (view (now (v .entry))) s k f ≡ false
+        → (isReading s k f ≡ true → view (now (v .entry)) .headers f .holder ≡ 0)
+        → UpdatesMade (now (v .entry)) (newRun budget) (plan (view (now (v .entry))) s (openRead k f)) (now (v .exit)) r) ⌝ }
+{
+    let start = Run::new(budget);
+    let holder = volume::holder(v, f);
+    if holder == k {
+        return start;
+    }
+    if holder == 0 {
+        return start;
+    }
+    recovery::recover(v, holder, start)
 }

@@ -1,6 +1,6 @@
 -- `session_fits` meets its contract: what is left of the clients decides.
 use mathlib.Core.Path.{_≡_, refl, sym, _∙_}
-use mathlib.Core.Bool.{not, _||_}
+use mathlib.Core.Bool.{not, _&&_, _||_}
 use Prim.Native.Nat.{_-_, _≤_}
 use native.Mathlib.Omega.{arith}
 use borrow.Author.Needs.{needs}
@@ -8,12 +8,12 @@ use borrow.Author.Tests.{not-true, not-false}
 use Rattle.lists.specs.Lists.{every, from}
 use Rattle.lists.proofs.TestLaws.{numbers-more, numbers-fail, numbers-done}
 use Rattle.volume.specs.Volumes.{view}
-use Rattle.rules.specs.Sessions.{isActive, markFits, sessionFits}
-use Rattle.sessions.proofs.session_fits.Statement.{statement}
-use Rattle.sessions.proofs.session_fits.Tie as tie
+use Rattle.rules.specs.Sessions.{isActive, markFits, readsFit, sessionFits}
+use Rattle.sessions.proofs.fits.session_fits.Statement.{statement}
+use Rattle.sessions.proofs.fits.session_fits.Tie as tie
 
 abbrev Inv-loop : tie.InvT-loop
-Inv-loop v s k₀ k = (1 ≤ k) × (k ≤ 5) × (sessionFits (view v) s ≡ every (λ j. not (isActive s j) || markFits (view v) j) (from k (5 - k)))
+Inv-loop v s k₀ k = (1 ≤ k) × (k ≤ 5) × (sessionFits (view v) s ≡ every (λ j. (not (isActive s j) || markFits (view v) j) && readsFit (view v) s j) (from k (5 - k)))
 
 abbrev μ-loop : tie.MeasureT-loop
 μ-loop v s k₀ k = 5 - k

@@ -1,0 +1,82 @@
+// The reading holds of a session: bit f - 1 of client k's word is its hold of file f.
+use interface::Session;
+ghost use mathlib.Core.Path.{_≡_};
+ghost use mathlib.Core.Bool.{not, _&&_};
+ghost use Prim.Native.Nat.{_-_, _^_, _≤_};
+ghost use lib.Dec.{eqb};
+ghost use Rattle.rules.specs.Sessions.{isReading, withReading, withoutReading, withoutReader, isReadByOther};
+
+// The word that has only the bit of file f.
+fn mask(f: u8) -> u16
+    requires { ⌜ (1 ≤ f) × (f ≤ 16) ⌝ }
+    ensures { λ r. ⌜ r ≡ 2 ^ (f - 1) ⌝ }
+{
+    let i = (f - 1) as u16;
+    1u16 << i
+}
+
+// Whether client k holds file f for reading.
+pub fn is_reading(s: Session, k: u8, f: u8) -> bool
+    requires { ⌜ (1 ≤ k) × (k ≤ 4) × (1 ≤ f) × (f ≤ 16) ⌝ }
+    ensures { λ r. ⌜ r ≡ isReading s k f ⌝ }
+{
+    let at = sector::wide(k) - 1;
+    s.reading[at] & mask(f) != 0
+}
+
+// The session with client k's reading hold of file f. Ruled out: the hold of another file (`must-fail/hold_of_the_next_file`);
+// the client's other holds gone.
+pub fn with_reading(mut s: Session, k: u8, f: u8) -> Session
+    requires { ⌜ (1 ≤ k) × (k ≤ 4) × (1 ≤ f) × (f ≤ 16) ⌝ }
+    ensures { λ r. ⌜ r ≡ withReading s k f ⌝ }
+{
+    let at = sector::wide(k) - 1;
+    let m = mask(f);
+    s.reading[at] = s.reading[at] | m;
+    s
+}
+
+// The session without it.
+pub fn without_reading(mut s: Session, k: u8, f: u8) -> Session
+    requires { ⌜ (1 ≤ k) × (k ≤ 4) × (1 ≤ f) × (f ≤ 16) ⌝ }
+    ensures { λ r. ⌜ r ≡ withoutReading s k f ⌝ }
+{
+    let at = sector::wide(k) - 1;
+    let m = mask(f);
+    let word = s.reading[at];
+    if word & m != 0 {
+        s.reading[at] = word - m;
+    }
+    s
+}
+
+// The session without any reading hold of client k.
+pub fn without_reader(mut s: Session, k: u8) -> Session
+    requires { ⌜ (1 ≤ k) × (k ≤ 4) ⌝ }
+    ensures { λ r. ⌜ r ≡ withoutReader s k ⌝ }
+{
+    let at = sector::wide(k) - 1;
+    s.reading[at] = 0;
+    s
+}
+
+// Whether client j is another than k and holds file f for reading.
+fn reads_beside(s: Session, j: u8, k: u8, f: u8) -> bool
+    requires { ⌜ (1 ≤ j) × (j ≤ 4) × (1 ≤ f) × (f ≤ 16) ⌝ }
+    ensures { λ r. ⌜ r ≡ (not (eqb j k) && isReading s j f) ⌝ }
+{
+    if j == k {
+        return false;
+    }
+    is_reading(s, j, f)
+}
+
+// Whether another client than k holds file f for reading. Ruled out: the last client not looked at
+// (`must-fail/reader_4_overlooked`); the client itself taken for another.
+pub fn is_read_by_other(s: Session, k: u8, f: u8) -> bool
+    requires { ⌜ (1 ≤ f) × (f ≤ 16) ⌝ }
+    ensures { λ r. ⌜ r ≡ isReadByOther s k f ⌝ }
+{
+    let last = reads_beside(s, 3, k, f) | reads_beside(s, 4, k, f);
+    reads_beside(s, 1, k, f) | (reads_beside(s, 2, k, f) | last)
+}
