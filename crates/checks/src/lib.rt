@@ -1,12 +1,15 @@
 // The tests of the calls: each answers the first refusal that applies, or that none does.
 mod call;
+mod open;
+mod page;
 mod write;
 
 pub use call::check_active;
 pub use call::check_begin;
-pub use call::check_open;
-pub use call::check_read;
 use interface::Refusal;
+pub use open::check_open;
+pub use open::check_open_read;
+pub use page::check_read;
 pub use write::check_write;
 
 // What the tests of a call found.

@@ -1,7 +1,7 @@
 // The tests of write, and where its page goes.
 use crate::Verdict;
 use crate::WriteVerdict;
-use crate::call::check_read;
+use crate::page::check_written;
 use interface::Refusal;
 use interface::Session;
 use sector::Limits;
@@ -54,11 +54,12 @@ fn check_slot(v: &[u8], k: u8, f: u8, p: u8, bytes: &[u8]) -> WriteVerdict
     }
 }
 
-// The tests of write, and where the page goes.
+// The tests of write, and where the page goes. Ruled out: 16 tested after 9 (`must-fail/sixteen_after_nine`); a file held for
+// reading only accepted.
 pub fn check_write(v: &[u8], s: Session, k: u8, f: u8, p: u8, bytes: &[u8]) -> WriteVerdict
     ensures { λ r. ⌜ writeFound r ≡ writeAnswer (first (tests (sound (now (v .entry))) (view (now (v .entry))) s (write k f p (now (bytes .entry))))) (view (now (v .entry))) k f p ⌝ }
 {
-    match check_read(v, s, k, f, p) {
+    match check_written(v, s, k, f, p) {
         Verdict::Refused(r) => WriteVerdict::Refused(r),
         Verdict::Accepted => check_slot(v, k, f, p, bytes),
     }

@@ -1,18 +1,17 @@
 -- `check_open` meets its contract: the tests of an active client, then its own.
-use mathlib.Core.Path.{refl, sym}
+use mathlib.Core.Path.{refl}
 use borrow.Author.Needs.{needs}
-use Rattle.rules.specs.Plans.{commit}
 use Rattle.rules.specs.Refusals.{tests}
-use Rattle.rules.proofs.AllowedLaws.{passed-first, ordered}
-use Rattle.checks.proofs.VerdictLaws.{accepted, refuses, accepts}
-use Rattle.checks.proofs.call.check_open.Statement.{statement}
-use Rattle.checks.proofs.call.check_open.Tie as tie
+use Rattle.checks.proofs.VerdictLaws.{accepted, refuses, accepts, active-client}
+use Rattle.checks.proofs.open.check_open.Statement.{statement}
+use Rattle.checks.proofs.open.check_open.Tie as tie
 
 check-free-requires : tie.Need-check-free-requires
+unfolding tests
 check-free-requires c κs =
     let q = c .before .before in
     let s = q .before .before in
-    passed-first (ordered _ _ (s .args .s) (commit (s .args .k))) (sym (accepted _ (c .enum-told .given .1) (q .check-active .ensures)))
+    active-client (s .args .v .now) (s .args .s) (s .args .k) (accepted _ (c .enum-told .given .1) (q .check-active .ensures)) .0
 
 returns : tie.Need-returns
 unfolding tests
@@ -23,5 +22,4 @@ unfolding tests
 returns-2 c = accepts _ _ (c .before .enum-told .given .1) (c .before .before .before .check-active .ensures) refl (c .check-free .ensures)
 
 pub check-open-spec : {M : Type 1} → statement M
-check-open-spec = tie.close (tie.spec (λ c κs. search needs) (λ c. search needs) (λ c. search needs) check-free-requires
-    returns returns-2)
+check-open-spec = tie.close (tie.spec (λ c κs. search needs) (λ c. search needs) (λ c. search needs) check-free-requires returns returns-2)

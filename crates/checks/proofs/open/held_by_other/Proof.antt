@@ -6,8 +6,8 @@ use borrow.Author.Tests.{eq-eqb, ne-eqb}
 use Rattle.volume.proofs.WellFormedLaws.{sound-formed}
 use Rattle.volume.proofs.LawfulLaws.{lawful-facts, holder-four}
 use Rattle.volume.proofs.SoundLaws.{sound-lawful}
-use Rattle.checks.proofs.call.held_by_other.Statement.{statement}
-use Rattle.checks.proofs.call.held_by_other.Tie as tie
+use Rattle.checks.proofs.open.held_by_other.Statement.{statement}
+use Rattle.checks.proofs.open.held_by_other.Tie as tie
 
 holder-requires : tie.Need-holder-requires
 holder-requires c κs = let s = c .before in (sound-formed (s .args .v .now) (s .pre .0), s .pre .1)
