@@ -43,7 +43,7 @@ module _ (v : Volume) (s : Session) (c : Call) (budget : ℕ) (e : 0 ≡ first (
   xs = allStores (view v .table) (plan (view v) s c)
 
   ended-by : (w : Volume) (made : ℕ) (isCrashed : Bool) → w ≡ cutAt v xs budget → made ≡ length (take budget xs)
-      → isCrashed ≡ ltb budget (length xs) → endedBy made isCrashed (sessionAfter s c) w ≡ call v s c budget
+      → isCrashed ≡ ltb budget (length xs) → endedBy made isCrashed (sessionAfter (view v) s c) w ≡ call v s c budget
   unfolding call
   ended-by w made true left count over =
       let more : budget < length xs = ltb-true budget (length xs) (sym over) in
@@ -55,7 +55,7 @@ module _ (v : Volume) (s : Session) (c : Call) (budget : ℕ) (e : 0 ≡ first (
       rw (← e, le-leb (length xs) budget room, count ∙ ap length all, left)
 
   pub ended-call : (w : Volume) (q : Run) → UpdatesMade v (newRun budget) (plan (view v) s c) w q
-      → endedBy (q .made) (q .crashed) (sessionAfter s c) w ≡ call v s c budget
+      → endedBy (q .made) (q .crashed) (sessionAfter (view v) s c) w ≡ call v s c budget
   ended-call w q m =
       let x = m .stores ∙ run-new budget xs v in
       ended-by w (q .made) (q .crashed) (ap (λ (p : Volume × Run). p .0) x) (ap (λ (p : Volume × Run). p .1 .made) x) (ap (λ (p : Volume × Run). p .1 .crashed) x)

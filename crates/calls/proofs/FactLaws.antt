@@ -10,10 +10,12 @@ use Rattle.volume.specs.Lawful.{headerFits}
 use Rattle.volume.specs.Volumes.{Volume, view}
 use Rattle.volume.specs.Sound.{sound}
 use Rattle.volume.specs.WellFormed.{WellFormed}
-use Rattle.volume.proofs.ReadLaws.{few-clients}
-use Rattle.rules.specs.Sessions.{isActive}
-use Rattle.rules.specs.Plans.{Call, begin, openFile, commit, abort}
+use Rattle.volume.proofs.ReadLaws.{few-clients, few-files}
+use Rattle.volume.proofs.SoundLaws.{Fine, fine-sound}
+use Rattle.rules.specs.Sessions.{isActive, isReading}
+use Rattle.rules.specs.Plans.{Call, begin, openFile, openRead, commit, abort}
 use Rattle.rules.specs.Refusals.{heldByOther, tests}
+use Rattle.rules.proofs.AllowedLaws.{MayOpenRead}
 use Rattle.rules.proofs.CallLaws.{passed}
 use Rattle.transaction.proofs.TestedLaws.{begin-client, act-client, open-header}
 
@@ -56,10 +58,34 @@ acts v s k e =
       running = w .running .state;
     }
 
--- A file that may be opened.
-pub opens : (v : Volume) (s : Session) (k f : ℕ) → 0 ≡ first (tests (sound v) (view v) s (openFile k f))
-    → IsFile (view v .table) f × (headerFits (view v .records) (view v .table) f (view v .headers f) ≡ true)
-    × (heldByOther (view v) s k f ≡ false)
-opens v s k f e =
-    let w = passed v s (openFile k f) (sym e) .allowed in
-    (w .file, open-header w, w .free)
+-- A file that may be opened, for writing or for reading.
+pub record Opens (v : Volume) (s : Session) (k f : ℕ) : Type 0 where
+  pub sound : sound v ≡ true
+  pub formed : WellFormed v
+  pub client : (1 ≤ k) × (k ≤ 4)
+  pub file : IsFile (view v .table) f
+  pub few : f ≤ 16
+  pub header : headerFits (view v .records) (view v .table) f (view v .headers f) ≡ true
+  pub free : heldByOther (view v) s k f ≡ false
+  pub unread : isReading s k f ≡ true → view v .headers f .holder ≡ 0
+
+may-open : (v : Volume) (s : Session) (k f : ℕ) → Fine v → MayOpenRead (view v) s k f → Opens v s k f
+may-open v s k f fine w =
+    let few : f ≤ 16 = omega (arith, w .file .high, few-files v (fine .formed)) in
+    record {
+      sound = fine-sound v fine;
+      formed = fine .formed;
+      client = (w .act .active .low, w .act .active .high);
+      file = w .file;
+      few = few;
+      header = open-header w;
+      free = w .free;
+      unread = λ on. w .act .ready .reads k f
+          (record { low = w .act .active .low; high = w .act .active .high; first = w .file .low; last = few; on = on }) .free;
+    }
+
+pub opens : (v : Volume) (s : Session) (k f : ℕ) → 0 ≡ first (tests (sound v) (view v) s (openFile k f)) → Opens v s k f
+opens v s k f e = let p = passed v s (openFile k f) (sym e) in may-open v s k f (p .fine) (p .allowed .either)
+
+pub opens-read : (v : Volume) (s : Session) (k f : ℕ) → 0 ≡ first (tests (sound v) (view v) s (openRead k f)) → Opens v s k f
+opens-read v s k f e = let p = passed v s (openRead k f) (sym e) in may-open v s k f (p .fine) (p .allowed)

@@ -10,13 +10,16 @@ use interface::QueryOutcome;
 use interface::Reply;
 use interface::Session;
 ghost use mathlib.Core.Path.{_≡_};
+ghost use mathlib.Core.Bool.{true};
+ghost use Prim.Native.Nat.{_≤_};
 ghost use Rattle.interface.specs.Answers.{queryAnswerOf};
 ghost use Rattle.sector.specs.Contents.{Table};
-ghost use Rattle.volume.specs.Places.{IsClient, IsPage, slotPlace, sectorOf};
+ghost use Rattle.volume.specs.Places.{IsClient, IsFile, IsPage, slotPlace, sectorOf};
 ghost use Rattle.volume.specs.Views.{View};
 ghost use Rattle.volume.specs.Volumes.{view};
+ghost use Rattle.volume.specs.Sound.{sound};
 ghost use Rattle.volume.specs.WellFormed.{WellFormed};
-ghost use Rattle.rules.specs.Plans.{openFile, readPage, entryFor, slotFor};
+ghost use Rattle.rules.specs.Plans.{openFile, openRead, readPage, entryFor, slotFor, sessionAfter};
 ghost use Rattle.rules.specs.Calls.{call, query, queryPart};
 ghost use Rattle.calls.specs.Replies.{replied};
 
@@ -34,23 +37,49 @@ pub fn begin(volume: &mut [u8], session: Session, client: u8, budget: u8) -> Rep
     }
 }
 
-// Gives the file to the client, after the recovery of an orphaned holder. Ruled out: recovery of that file alone
-// (`rules/must-fail/opened_file_only`); the map from before the recovery stored
-// (`rules/must-fail/map_before_recovery`).
+// Gives the file to the client for writing, after the recovery of an orphaned holder; the client's reading hold of it ends.
+// Ruled out: recovery of that file alone (`rules/must-fail/opened_file_only`); the map from before the recovery stored
+// (`rules/must-fail/map_before_recovery`); the reading hold kept (`must-fail/upgrade_keeps_hold`).
 pub fn open(volume: &mut [u8], session: Session, client: u8, file: u8, budget: u8) -> Reply
     ensures { λ r. ⌜ replied r (now (volume .exit)) ≡ call (now (volume .entry)) session (openFile client file) budget ⌝ }
 {
     match checks::check_open(volume, session, client, file) {
         Verdict::Refused(r) => refuse(session, r),
-        Verdict::Accepted => end(
-            transaction::open_stores(volume, client, file, budget),
-            session,
-        ),
+        Verdict::Accepted => {
+            let run = transaction::open_stores(volume, client, file, budget);
+            end(run, sessions::without_reading(session, client, file))
+        }
+    }
+}
+
+// The session with client k's reading hold of file f, unless k holds the file already.
+fn with_hold(v: &[u8], s: Session, k: u8, f: u8) -> Session
+    requires { ⌜ (sound (now v) ≡ true) × (1 ≤ k) × (k ≤ 4) × IsFile (view (now v) .table) f ⌝ }
+    ensures { λ r. ⌜ r ≡ sessionAfter (view (now (v .entry))) s (openRead k f) ⌝ }
+{
+    if checks::holds_either(v, s, k, f) {
+        return s;
+    }
+    sessions::with_reading(s, k, f)
+}
+
+// Gives the file to the client for reading, after the recovery of an orphaned holder. Ruled out: no recovery
+// (`must-fail/read_without_recovery`); a hold noted beside a writing one (`rules/must-fail/hold_beside_writing`).
+pub fn open_read(volume: &mut [u8], session: Session, client: u8, file: u8, budget: u8) -> Reply
+    ensures { λ r. ⌜ replied r (now (volume .exit)) ≡ call (now (volume .entry)) session (openRead client file) budget ⌝ }
+{
+    match checks::check_open_read(volume, session, client, file) {
+        Verdict::Refused(r) => refuse(session, r),
+        Verdict::Accepted => {
+            let next = with_hold(volume, session, client, file);
+            let run = transaction::open_read_stores(volume, client, file, budget);
+            end(run, next)
+        }
     }
 }
 
 // The sector that has the page as the client sees it. Ruled out: an answer by the map where the record has the
-// page (`slots/must-fail/read_by_map_alone`); an answer for a file that the client doesn't hold.
+// page (`slots/must-fail/read_by_map_alone`); an answer for a file that the client holds neither way.
 pub fn read(volume: &[u8], session: Session, client: u8, file: u8, page: u8) -> QueryOutcome
     ensures { λ r. ⌜ queryAnswerOf r ≡ query (now (volume .entry)) session (readPage client file page) ⌝ }
 {
@@ -119,7 +148,7 @@ pub fn commit(volume: &mut [u8], session: Session, client: u8, budget: u8) -> Re
         Verdict::Refused(r) => refuse(session, r),
         Verdict::Accepted => {
             let made = transaction::commit_stores(volume, client, budget);
-            end(made, sessions::set_active(session, client, false))
+            end(made, sessions::without_client(session, client))
         }
     }
 }
@@ -133,7 +162,7 @@ pub fn abort(volume: &mut [u8], session: Session, client: u8, budget: u8) -> Rep
         Verdict::Refused(r) => refuse(session, r),
         Verdict::Accepted => {
             let run = transaction::abort_stores(volume, client, budget);
-            end(run, sessions::set_active(session, client, false))
+            end(run, sessions::without_client(session, client))
         }
     }
 }

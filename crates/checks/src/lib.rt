@@ -10,6 +10,7 @@ use interface::Refusal;
 pub use open::check_open;
 pub use open::check_open_read;
 pub use page::check_read;
+pub use page::holds_either;
 pub use write::check_write;
 
 // What the tests of a call found.

@@ -21,7 +21,7 @@ ghost use Rattle.rules.specs.Refusals.{pageMissing, activeTests, heldTests, rea
 ghost use Rattle.checks.specs.Verdicts.{numberOf};
 
 // Whether client k holds file f, for writing or for reading.
-fn holds_either(v: &[u8], s: Session, k: u8, f: u8) -> bool
+pub fn holds_either(v: &[u8], s: Session, k: u8, f: u8) -> bool
     requires { ⌜ (sound (now v) ≡ true) × (1 ≤ k) × (k ≤ 4) × IsFile (view (now v) .table) f ⌝ }
     ensures { λ r. ⌜ r ≡ holdsEither (view (now (v .entry))) s k f ⌝ }
 {

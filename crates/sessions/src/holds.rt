@@ -1,10 +1,11 @@
 // The reading holds of a session: bit f - 1 of client k's word is its hold of file f.
+use crate::marks::set_active;
 use interface::Session;
 ghost use mathlib.Core.Path.{_≡_};
-ghost use mathlib.Core.Bool.{not, _&&_};
+ghost use mathlib.Core.Bool.{false, not, _&&_};
 ghost use Prim.Native.Nat.{_-_, _^_, _≤_};
 ghost use lib.Dec.{eqb};
-ghost use Rattle.rules.specs.Sessions.{isReading, withReading, withoutReading, withoutReader, isReadByOther};
+ghost use Rattle.rules.specs.Sessions.{setActive, isReading, withReading, withoutReading, withoutReader, isReadByOther};
 
 // The word that has only the bit of file f.
 fn mask(f: u8) -> u16
@@ -50,14 +51,16 @@ pub fn without_reading(mut s: Session, k: u8, f: u8) -> Session
     s
 }
 
-// The session without any reading hold of client k.
-pub fn without_reader(mut s: Session, k: u8) -> Session
+// The session when client k's transaction is over: k isn't marked, and has no reading hold. Ruled out: its holds kept
+// (`must-fail/hold_after_commit`); another client's ended.
+pub fn without_client(s: Session, k: u8) -> Session
     requires { ⌜ (1 ≤ k) × (k ≤ 4) ⌝ }
-    ensures { λ r. ⌜ r ≡ withoutReader s k ⌝ }
+    ensures { λ r. ⌜ r ≡ withoutReader (setActive s k false) k ⌝ }
 {
+    let mut next = set_active(s, k, false);
     let at = sector::wide(k) - 1;
-    s.reading[at] = 0;
-    s
+    next.reading[at] = 0;
+    next
 }
 
 // Whether client j is another than k and holds file f for reading.

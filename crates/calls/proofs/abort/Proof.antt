@@ -16,8 +16,8 @@ abort-stores-requires c κs =
     let w = acts (s .args .volume .now) (s .args .session) (s .args .client) (e ∙ sym (same-tests (s .args .volume .now) (s .args .session) (s .args .client))) in
     (call-formed (s .args .volume .now) (s .args .session) (abort (s .args .client)) e, w .client, w .running)
 
-set-active-requires : tie.Need-set-active-requires
-set-active-requires c κs =
+without-client-requires : tie.Need-without-client-requires
+without-client-requires c κs =
     let b = c .before .before in
     let q = b .before .before .before .before in
     let s = q .before .before .before in
@@ -38,9 +38,9 @@ returns-2 c =
     let q = b .before .before .before .before in
     let s = q .before .before .before in
     let e = (ap numberOf (sym (b .before .before .enum-told .given .1)) ∙ q .check-active .ensures ∙ same-tests (s .args .volume .now) (s .args .session) (s .args .client)) in
-    c .end .ensures (b .abort-stores .last .0) ∙ rw (c .before .set-active .ensures) (ended-call (s .args .volume .now) (s .args .session) (abort (s .args .client)) (s .args .budget) e (b .abort-stores .last .0) (b .abort-stores .result) (b .abort-stores .ensures (s .args .session)))
+    c .end .ensures (b .abort-stores .last .0) ∙ rw (c .before .without-client .ensures) (ended-call (s .args .volume .now) (s .args .session) (abort (s .args .client)) (s .args .budget) e (b .abort-stores .last .0) (b .abort-stores .result) (b .abort-stores .ensures (s .args .session)))
 
 pub abort-spec : {M : Type 1} → statement M
 abort-spec = tie.close (tie.spec (λ c κs. search needs) (λ c. search needs) (λ c κs. search needs) (λ c. search needs)
-    abort-stores-requires set-active-requires (λ c κs. search needs) (λ c. search needs) returns (λ c. search needs)
+    abort-stores-requires without-client-requires (λ c κs. search needs) (λ c. search needs) returns (λ c. search needs)
     returns-2)

@@ -15,8 +15,8 @@ commit-stores-requires c κs =
     let e = (ap numberOf (sym (c .before .enum-told .given .1)) ∙ q .check-active .ensures) in
     (call-formed (s .args .volume .now) (s .args .session) (commit (s .args .client)) e, acts (s .args .volume .now) (s .args .session) (s .args .client) e .client)
 
-set-active-requires : tie.Need-set-active-requires
-set-active-requires c κs =
+without-client-requires : tie.Need-without-client-requires
+without-client-requires c κs =
     let b = c .before .before in
     let q = b .before .before .before .before in
     let s = q .before .before .before in
@@ -36,9 +36,9 @@ returns-2 c =
     let q = b .before .before .before .before in
     let s = q .before .before .before in
     let e = (ap numberOf (sym (b .before .before .enum-told .given .1)) ∙ q .check-active .ensures) in
-    c .end .ensures (b .commit-stores .last .0) ∙ rw (c .before .set-active .ensures) (ended-call (s .args .volume .now) (s .args .session) (commit (s .args .client)) (s .args .budget) e (b .commit-stores .last .0) (b .commit-stores .result) (b .commit-stores .ensures (s .args .session)))
+    c .end .ensures (b .commit-stores .last .0) ∙ rw (c .before .without-client .ensures) (ended-call (s .args .volume .now) (s .args .session) (commit (s .args .client)) (s .args .budget) e (b .commit-stores .last .0) (b .commit-stores .result) (b .commit-stores .ensures (s .args .session)))
 
 pub commit-spec : {M : Type 1} → statement M
 commit-spec = tie.close (tie.spec (λ c κs. search needs) (λ c. search needs) (λ c κs. search needs) (λ c. search needs)
-    commit-stores-requires set-active-requires (λ c κs. search needs) (λ c. search needs) returns (λ c. search needs)
+    commit-stores-requires without-client-requires (λ c κs. search needs) (λ c. search needs) returns (λ c. search needs)
     returns-2)
