@@ -1,2 +1,3 @@
-pub mod PackLaws
 pub mod CallLaws
+pub mod PassLaws
+pub mod PassExamples

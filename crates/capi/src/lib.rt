@@ -1,27 +1,50 @@
-// The volume for C and Rust: `include/volume.h` declares these functions. A slice is a pointer and a count. A reply is
-// one number, kind + 256 * session + 65,536 * number, and a session is a byte, with bit k - 1 for client k.
-mod pack;
+// The volume for C and Rust: `include/volume.h` declares these functions and structs. A slice is a pointer and a count.
+// Sessions, replies and answers are structs by value.
+mod pass;
 
-use crate::pack::pack;
-use crate::pack::pack_format;
-use crate::pack::pack_list;
-use crate::pack::pack_query;
-use crate::pack::refuse_session_byte;
-use interface::session_of;
+use crate::pass::pass;
+use crate::pass::pass_format;
+use crate::pass::pass_list;
+use crate::pass::pass_query;
+use crate::pass::refuse_bits;
+use crate::pass::refuse_session;
+use crate::pass::session_from;
 ghost use mathlib.Core.Path.{_≡_};
 ghost use Rattle.volume.specs.Sound.{sound};
 ghost use Rattle.volume.specs.Format.{Formatted};
-ghost use Rattle.rules.specs.Plans.{openFile, readPage};
+ghost use Rattle.rules.specs.Plans.{openFile, openRead, readPage};
 ghost use Rattle.listing.specs.Listed.{listed};
-ghost use Rattle.capi.specs.Packing.{packedFormat, truth, calledBy, askedBy, listedLength};
+ghost use Rattle.capi.specs.Passing.{passedFormat, truth, calledBy, askedBy, listedLength};
+
+// A session: bit k - 1 of `active` is client k's mark, bit f - 1 of `reading[k - 1]` its reading hold of file f.
+#[repr(C)]
+pub struct VolSession {
+    pub active: u8,
+    pub reading: [u16; 4],
+}
+
+// What a call hands back that takes a session and a budget.
+#[repr(C)]
+pub struct VolReply {
+    pub session: VolSession,
+    pub kind: u8,
+    pub number: u16,
+}
+
+// What a call hands back that hands back no session.
+#[repr(C)]
+pub struct VolAnswer {
+    pub kind: u8,
+    pub number: u16,
+}
 
 // Formats the volume.
 #[no_mangle]
-pub extern "C" fn vol_format(volume: &mut [u8], clients: u8, shape: &[u8]) -> u64
-    ensures { λ r. ⌜ r ≡ packedFormat (Rattle.volume.specs.Format.format (now (volume .entry)) clients (now (shape .entry)) .answer) ⌝ }
+pub extern "C" fn vol_format(volume: &mut [u8], clients: u8, shape: &[u8]) -> VolAnswer
+    ensures { λ r. ⌜ r ≡ passedFormat (Rattle.volume.specs.Format.format (now (volume .entry)) clients (now (shape .entry)) .answer) ⌝ }
     ensures { λ _. ⌜ now (volume .exit) ≡ Rattle.volume.specs.Format.format (now (volume .entry)) clients (now (shape .entry)) .volume ⌝ }
 {
-    pack_format(format::format(volume, clients, shape))
+    pass_format(format::format(volume, clients, shape))
 }
 
 // Whether the volume is sound: 1 or 0.
@@ -37,56 +60,90 @@ pub extern "C" fn vol_is_sound(volume: &[u8]) -> u64
 
 // Starts a transaction of the client.
 #[no_mangle]
-pub extern "C" fn vol_begin(volume: &mut [u8], session: u8, client: u8, budget: u8) -> u64
+pub extern "C" fn vol_begin(
+    volume: &mut [u8],
+    session: VolSession,
+    client: u8,
+    budget: u8,
+) -> VolReply
     ensures { λ r. ⌜ (record { reply = r; volume = now (volume .exit) }) ≡ calledBy (now (volume .entry)) session (Rattle.rules.specs.Plans.begin client) budget ⌝ }
 {
-    if 15 < session {
-        return refuse_session_byte(volume, session);
+    if 15 < session.active {
+        return refuse_session(volume, session);
     }
-    pack(calls::begin(volume, session_of(session), client, budget))
+    pass(calls::begin(volume, session_from(session), client, budget))
 }
 
-// Gives the file to the client.
+// Gives the file to the client for writing.
 #[no_mangle]
-pub extern "C" fn vol_open(volume: &mut [u8], session: u8, client: u8, file: u8, budget: u8) -> u64
+pub extern "C" fn vol_open(
+    volume: &mut [u8],
+    session: VolSession,
+    client: u8,
+    file: u8,
+    budget: u8,
+) -> VolReply
     ensures { λ r. ⌜ (record { reply = r; volume = now (volume .exit) }) ≡ calledBy (now (volume .entry)) session (openFile client file) budget ⌝ }
 {
-    if 15 < session {
-        return refuse_session_byte(volume, session);
+    if 15 < session.active {
+        return refuse_session(volume, session);
     }
-    pack(calls::open(volume, session_of(session), client, file, budget))
+    pass(calls::open(volume, session_from(session), client, file, budget))
+}
+
+// Gives the file to the client for reading.
+#[no_mangle]
+pub extern "C" fn vol_open_read(
+    volume: &mut [u8],
+    session: VolSession,
+    client: u8,
+    file: u8,
+    budget: u8,
+) -> VolReply
+    ensures { λ r. ⌜ (record { reply = r; volume = now (volume .exit) }) ≡ calledBy (now (volume .entry)) session (openRead client file) budget ⌝ }
+{
+    if 15 < session.active {
+        return refuse_session(volume, session);
+    }
+    pass(calls::open_read(volume, session_from(session), client, file, budget))
 }
 
 // The sector that has the page as the client sees it.
 #[no_mangle]
-pub extern "C" fn vol_read(volume: &[u8], session: u8, client: u8, file: u8, page: u8) -> u64
+pub extern "C" fn vol_read(
+    volume: &[u8],
+    session: VolSession,
+    client: u8,
+    file: u8,
+    page: u8,
+) -> VolAnswer
     ensures { λ r. ⌜ r ≡ askedBy (now (volume .entry)) session (readPage client file page) ⌝ }
 {
-    if 15 < session {
-        return refuse_session_byte(volume, 0);
+    if 15 < session.active {
+        return refuse_bits(volume);
     }
-    pack_query(calls::read(volume, session_of(session), client, file, page))
+    pass_query(calls::read(volume, session_from(session), client, file, page))
 }
 
 // Writes the bytes as the page, in the client's transaction.
 #[no_mangle]
 pub extern "C" fn vol_write(
     volume: &mut [u8],
-    session: u8,
+    session: VolSession,
     client: u8,
     file: u8,
     page: u8,
     bytes: &[u8],
     budget: u8,
-) -> u64
+) -> VolReply
     ensures { λ r. ⌜ (record { reply = r; volume = now (volume .exit) }) ≡ calledBy (now (volume .entry)) session (Rattle.rules.specs.Plans.write client file page (now (bytes .entry))) budget ⌝ }
 {
-    if 15 < session {
-        return refuse_session_byte(volume, session);
+    if 15 < session.active {
+        return refuse_session(volume, session);
     }
-    pack(calls::write(
+    pass(calls::write(
         volume,
-        session_of(session),
+        session_from(session),
         client,
         file,
         page,
@@ -97,24 +154,34 @@ pub extern "C" fn vol_write(
 
 // Ends the client's transaction: its pages become the files' content.
 #[no_mangle]
-pub extern "C" fn vol_commit(volume: &mut [u8], session: u8, client: u8, budget: u8) -> u64
+pub extern "C" fn vol_commit(
+    volume: &mut [u8],
+    session: VolSession,
+    client: u8,
+    budget: u8,
+) -> VolReply
     ensures { λ r. ⌜ (record { reply = r; volume = now (volume .exit) }) ≡ calledBy (now (volume .entry)) session (Rattle.rules.specs.Plans.commit client) budget ⌝ }
 {
-    if 15 < session {
-        return refuse_session_byte(volume, session);
+    if 15 < session.active {
+        return refuse_session(volume, session);
     }
-    pack(calls::commit(volume, session_of(session), client, budget))
+    pass(calls::commit(volume, session_from(session), client, budget))
 }
 
 // Ends the client's transaction and drops its pages.
 #[no_mangle]
-pub extern "C" fn vol_abort(volume: &mut [u8], session: u8, client: u8, budget: u8) -> u64
+pub extern "C" fn vol_abort(
+    volume: &mut [u8],
+    session: VolSession,
+    client: u8,
+    budget: u8,
+) -> VolReply
     ensures { λ r. ⌜ (record { reply = r; volume = now (volume .exit) }) ≡ calledBy (now (volume .entry)) session (Rattle.rules.specs.Plans.abort client) budget ⌝ }
 {
-    if 15 < session {
-        return refuse_session_byte(volume, session);
+    if 15 < session.active {
+        return refuse_session(volume, session);
     }
-    pack(calls::abort(volume, session_of(session), client, budget))
+    pass(calls::abort(volume, session_from(session), client, budget))
 }
 
 // Writes the listing of the volume to the front of `out`: its length, or 0 if nothing was written.
@@ -123,5 +190,5 @@ pub extern "C" fn vol_list(volume: &[u8], out: &mut [u8]) -> u64
     ensures { λ r. ⌜ r ≡ listedLength (listed (now (volume .entry)) (now (out .entry)) .outcome) ⌝ }
     ensures { λ _. ⌜ now (out .exit) ≡ listed (now (volume .entry)) (now (out .entry)) .out ⌝ }
 {
-    pack_list(listing::list(volume, out))
+    pass_list(listing::list(volume, out))
 }
