@@ -1,3 +1,4 @@
 pub mod CommandLaws
 pub mod LineLaws
 pub mod InspectLaws
+pub mod InspectExamples

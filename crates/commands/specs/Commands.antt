@@ -4,7 +4,7 @@ use Rattle.interface.specs.declared.Session.{Session}
 use Rattle.interface.specs.Answers.{answerOf, queryAnswerOf}
 use Rattle.sector.specs.Contents.{Bytes}
 use Rattle.volume.specs.Volumes.{Volume}
-use Rattle.rules.specs.Plans.{begin, openFile, write, commit, abort, Query, readPage}
+use Rattle.rules.specs.Plans.{begin, openFile, openRead, write, commit, abort, Query, readPage}
 use Rattle.atomicity.specs.Model.{Model}
 use Rattle.atomicity.specs.Runs.{Step, calls, asks, Configuration, stepped}
 use Rattle.atomicity.specs.Transcripts.{StepAnswer, ofCall, ofQuery, eventOf}
@@ -21,6 +21,7 @@ queryOf c = readPage (c .client) (c .file) (c .page)
 abbrev pub stepBy : Action → Command → Bytes → Step
 stepBy Action.Begin c d = calls (c .crash) (begin (c .client)) (c .budget)
 stepBy Action.Open c d = calls (c .crash) (openFile (c .client) (c .file)) (c .budget)
+stepBy Action.OpenRead c d = calls (c .crash) (openRead (c .client) (c .file)) (c .budget)
 stepBy Action.Write c d = calls (c .crash) (write (c .client) (c .file) (c .page) d) (c .budget)
 stepBy Action.Commit c d = calls (c .crash) (commit (c .client)) (c .budget)
 stepBy Action.Abort c d = calls (c .crash) (abort (c .client)) (c .budget)

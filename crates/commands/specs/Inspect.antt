@@ -1,20 +1,38 @@
--- The lines that are passed over, and those that look at the volume or change it by hand.
-use mathlib.Core.Bool.{Bool, true, false}
+-- The lines that are passed over, those that set the session, and those that look at the volume or change it by hand.
+use mathlib.Core.Bool.{Bool, true, false, _&&_}
 use mathlib.Core.List.{[], _∷_}
-use Prim.Native.Nat.{_/_}
+use Prim.Native.Nat.{ℕ, _/_}
 use lib.Dec.{eqb, ltb}
 use lib.ListN.{length, set}
-use Rattle.lists.specs.Lists.{if_then_else_}
+use Rattle.interface.specs.declared.Session.{Session}
+use Rattle.lists.specs.Lists.{if_then_else_, between}
 use Rattle.sector.specs.Contents.{Bytes}
 use Rattle.sector.specs.Sectors.{sector}
 use Rattle.volume.specs.Volumes.{Volume}
+use Rattle.rules.specs.Sessions.{isReading, withReading}
 use Rattle.script.specs.Fields.{argument}
+use Rattle.commands.specs.declared.Added.{Added}
 use Rattle.commands.specs.Lines.{byteArgument}
 
 -- "Empty lines and lines that begin with `#` are skipped."
 abbrev pub isRemark : Bytes → Bool
 isRemark [] = true
 isRemark (c ∷ l) = eqb c 0x23
+
+-- Client k and file f are such as a session has room for: "K 1 to 4, F 1 to 16".
+abbrev pub isHold : (client : ℕ) → (file : ℕ) → Bool
+isHold k f = between 1 k 4 && between 1 f 16
+
+-- `reading K F`: the session gets that reading hold; whether client and file are such, and the session afterwards.
+unfoldable pub readingAdded : Session → Bytes → Added
+readingAdded s l =
+    if isHold (byteArgument 1 l) (byteArgument 2 l)
+    then record { «is_named» = true; session = withReading s (byteArgument 1 l) (byteArgument 2 l) }
+    else record { «is_named» = false; session = s }
+
+-- `session`, of each client and file: it holds the file for reading.
+abbrev pub showsHold : Session → (client : ℕ) → (file : ℕ) → Bool
+showsHold s k f = isHold k f && isReading s k f
 
 -- Whether the place is in the volume, and the volume afterwards.
 pub record Poked : Type 0 where

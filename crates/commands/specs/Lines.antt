@@ -40,6 +40,7 @@ lineData l = ramp (byteArgument 4 l) (dataLength l)
 abbrev pub budgetPlace : Action → ℕ
 budgetPlace Action.Begin = 2
 budgetPlace Action.Open = 3
+budgetPlace Action.OpenRead = 3
 budgetPlace Action.Write = 6
 budgetPlace Action.Commit = 2
 budgetPlace Action.Abort = 2

@@ -2,18 +2,19 @@
 // passed over. Ruled out: a change of the byte after the last one (`must-fail/poke_past_the_end`); a sector shown that
 // the end of the volume cuts off.
 use crate::Action;
+use crate::Added;
 use crate::lines::byte_argument;
 use crate::lines::command;
 use interface::Session;
 use script::fields::argument;
 use sector::Sector;
 ghost use mathlib.Core.Path.{_≡_};
-ghost use Rattle.interface.specs.Answers.{sessionOf};
+ghost use Rattle.interface.specs.Answers.{noneReading, sessionOf};
 ghost use Rattle.rules.specs.Plans.{readPage};
 ghost use Rattle.rules.specs.Calls.{queryPart};
 ghost use Rattle.script.specs.Fields;
 ghost use Rattle.commands.specs.Lines.{byteArgument};
-ghost use Rattle.commands.specs.Inspect.{isRemark, poked, dumped};
+ghost use Rattle.commands.specs.Inspect.{isRemark, isHold, readingAdded, showsHold, poked, dumped};
 
 // Whether the line is passed over: it is empty or begins with `#`.
 pub fn is_remark(line: &[u8]) -> bool
@@ -25,11 +26,46 @@ pub fn is_remark(line: &[u8]) -> bool
     line[0] == b'#'
 }
 
-// `session M`
+// `session M`: these marks, and no reading hold.
 pub fn session(line: &[u8]) -> Session
-    ensures { λ r. ⌜ r ≡ sessionOf (byteArgument 1 (now (line .entry))) ⌝ }
+    ensures { λ r. ⌜ r ≡ sessionOf (byteArgument 1 (now (line .entry))) noneReading ⌝ }
 {
-    interface::session_of(byte_argument(line, 1))
+    interface::session_of(byte_argument(line, 1), [0; 4])
+}
+
+// Whether a session has room for a hold of this client and file.
+fn is_hold(k: u8, f: u8) -> bool
+    ensures { λ r. ⌜ r ≡ isHold k f ⌝ }
+{
+    (1 <= k) & (k <= 4) & ((1 <= f) & (f <= 16))
+}
+
+// `reading K F`. Ruled out: client 0 taken for client 1 (`must-fail/client_0_reads`); the holds from before dropped.
+pub fn reading(s: Session, line: &[u8]) -> Added
+    ensures { λ r. ⌜ r ≡ readingAdded s (now (line .entry)) ⌝ }
+{
+    let k = byte_argument(line, 1);
+    let f = byte_argument(line, 2);
+    if is_hold(k, f) {
+        return Added {
+            is_named: true,
+            session: sessions::with_reading(s, k, f),
+        };
+    }
+    Added {
+        is_named: false,
+        session: s,
+    }
+}
+
+// `session`: whether it shows the hold of this client and file.
+pub fn shows_hold(s: Session, k: u8, f: u8) -> bool
+    ensures { λ r. ⌜ r ≡ showsHold s k f ⌝ }
+{
+    if is_hold(k, f) {
+        return sessions::is_reading(s, k, f);
+    }
+    false
 }
 
 // `read K F P`: the second call, which hands back the page itself.

@@ -15,6 +15,7 @@ pub use performer::perform;
 pub enum Action {
     Begin,
     Open,
+    OpenRead,
     Write,
     Commit,
     Abort,
@@ -41,5 +42,11 @@ pub enum Told {
 // Its answer, and the session last handed back: a question hands back none, so it is the one from before it.
 pub struct Performed {
     pub told: Told,
+    pub session: Session,
+}
+
+// The session with a reading hold more; without, if the line names no client or file that a session has room for.
+pub struct Added {
+    pub is_named: bool,
     pub session: Session,
 }

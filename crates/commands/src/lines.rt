@@ -49,6 +49,7 @@ fn budget_place(a: Action) -> usize
     match a {
         Action::Begin => 2,
         Action::Open => 3,
+        Action::OpenRead => 3,
         Action::Write => 6,
         Action::Commit => 2,
         Action::Abort => 2,
@@ -94,8 +95,8 @@ fn data_length(line: &[u8]) -> usize
     512
 }
 
-// `begin K [BUDGET]`, `open K F [BUDGET]`, the first call of `read K F P`, `write K F P SEED LENGTH [BUDGET]`,
-// `commit K [BUDGET]`, `abort K [BUDGET]`.
+// `begin K [BUDGET]`, `open K F [BUDGET]`, `open_read K F [BUDGET]`, the first call of `read K F P`,
+// `write K F P SEED LENGTH [BUDGET]`, `commit K [BUDGET]`, `abort K [BUDGET]`.
 pub fn perform_line(v: &mut [u8], s: Session, a: Action, line: &[u8]) -> Performed
     ensures { λ r. ⌜ ((m : Model) → IsPerformed (runOf (now (v .entry)) s m) (lineStep a (now (line .entry))) r (now (v .exit))) ⌝ }
 {

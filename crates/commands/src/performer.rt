@@ -46,6 +46,7 @@ pub fn perform(v: &mut [u8], s: Session, c: Command, bytes: &[u8]) -> Performed
     match a {
         Action::Begin => told(calls::begin(v, g, c.client, c.budget)),
         Action::Open => told(calls::open(v, g, c.client, c.file, c.budget)),
+        Action::OpenRead => told(calls::open_read(v, g, c.client, c.file, c.budget)),
         Action::Write => told(calls::write(v, g, c.client, c.file, c.page, bytes, c.budget)),
         Action::Commit => told(calls::commit(v, g, c.client, c.budget)),
         Action::Abort => told(calls::abort(v, g, c.client, c.budget)),

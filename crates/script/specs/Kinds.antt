@@ -41,17 +41,21 @@ line k w ms n = record {
   8 = getD ms 4 255;
 }
 
--- An address and a sector are at most those of the longest volume; whether they are in this one is tested where they are used.
+-- An address and a sector are at most those of the longest volume; whether they are in this one, and whether client and file of a
+-- reading hold are at least 1, is tested where they are used.
 unfoldable pub rows : List Row
 rows =
     line Kind.Format "format" (262400 ∷ 255 ∷ []) 64
     ∷ line Kind.Begin "begin" (255 ∷ []) 1
     ∷ line Kind.Open "open" (255 ∷ 255 ∷ []) 1
+    ∷ line Kind.OpenRead "open_read" (255 ∷ 255 ∷ []) 1
     ∷ line Kind.Write "write" (255 ∷ 255 ∷ 255 ∷ 255 ∷ 512 ∷ []) 1
     ∷ line Kind.Commit "commit" (255 ∷ []) 1
     ∷ line Kind.Abort "abort" (255 ∷ []) 1
     ∷ line Kind.Read "read" (255 ∷ 255 ∷ 255 ∷ []) 0
     ∷ line Kind.Session "session" (15 ∷ []) 0
+    ∷ line Kind.ShowSession "session" [] 0
+    ∷ line Kind.Reading "reading" (4 ∷ 16 ∷ []) 0
     ∷ line Kind.Poke "poke" (262399 ∷ 255 ∷ []) 0
     ∷ line Kind.Dump "dump" (1024 ∷ []) 0
     ∷ line Kind.List "list" [] 0

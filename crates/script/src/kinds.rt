@@ -12,7 +12,7 @@ ghost use Rattle.script.specs.Kinds.{rows, argumentsFit, kindOf};
 ghost use Rattle.script.specs.Kinds;
 
 // The most that an argument may be: any byte, a volume's length, an address and a sector in the longest volume, the length of a
-// write's data, and a session.
+// write's data, and a session's marks, clients and files.
 const B: u32 = 255;
 
 const LENGTH: u32 = 262400;
@@ -25,15 +25,22 @@ const DATA: u32 = 512;
 
 const SESSION: u32 = 15;
 
-const ROWS: [Row; 11] = [
+const CLIENT: u32 = 4;
+
+const FILE: u32 = 16;
+
+const ROWS: [Row; 14] = [
     Row(Kind::Format, *b"format    ", 2, 66, LENGTH, B, B, B, B),
     Row(Kind::Begin, *b"begin     ", 1, 2, B, B, B, B, B),
     Row(Kind::Open, *b"open      ", 2, 3, B, B, B, B, B),
+    Row(Kind::OpenRead, *b"open_read ", 2, 3, B, B, B, B, B),
     Row(Kind::Write, *b"write     ", 5, 6, B, B, B, B, DATA),
     Row(Kind::Commit, *b"commit    ", 1, 2, B, B, B, B, B),
     Row(Kind::Abort, *b"abort     ", 1, 2, B, B, B, B, B),
     Row(Kind::Read, *b"read      ", 3, 3, B, B, B, B, B),
     Row(Kind::Session, *b"session   ", 1, 1, SESSION, B, B, B, B),
+    Row(Kind::ShowSession, *b"session   ", 0, 0, B, B, B, B, B),
+    Row(Kind::Reading, *b"reading   ", 2, 2, CLIENT, FILE, B, B, B),
     Row(Kind::Poke, *b"poke      ", 2, 2, ADDRESS, B, B, B, B),
     Row(Kind::Dump, *b"dump      ", 1, 1, SECTOR, B, B, B, B),
     Row(Kind::List, *b"list      ", 0, 0, B, B, B, B, B),

@@ -8,11 +8,17 @@ pub enum Kind {
     Format,
     Begin,
     Open,
+    OpenRead,
     Write,
     Commit,
     Abort,
     Read,
+    // The session is set.
     Session,
+    // The session is shown.
+    ShowSession,
+    // A reading hold is added to the session.
+    Reading,
     Poke,
     Dump,
     List,

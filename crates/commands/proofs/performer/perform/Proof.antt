@@ -1,6 +1,6 @@
 -- `perform` meets its contract, by the action of the command.
 use borrow.Author.Needs.{needs}
-use Rattle.rules.specs.Plans.{begin, openFile, write, commit, abort}
+use Rattle.rules.specs.Plans.{begin, openFile, openRead, write, commit, abort}
 use Rattle.commands.specs.declared.Action.{Action}
 use Rattle.commands.specs.Commands.{queryOf}
 use Rattle.commands.proofs.CommandLaws.{step-by, performed-call, performed-query}
@@ -29,7 +29,7 @@ returns-3 c =
     let t = b .before .before in
     let g = t .before .before in
     let a = g .before .before .before .args in
-    λ m. performed-call (a .v .now) (b .write .last .0) (a .s) (g .given-session .result) m (c .told3 .result) (a .c .crash) (write (a .c .client) (a .c .file) (a .c .page) (a .bytes .now)) (a .c .budget) _ (b .write .result) (step-by (a .c) (a .bytes .now) Action.Write (t .enum-told3 .given .1)) (g .given-session .ensures) (b .write .ensures) (c .told3 .ensures)
+    λ m. performed-call (a .v .now) (b .open-read .last .0) (a .s) (g .given-session .result) m (c .told3 .result) (a .c .crash) (openRead (a .c .client) (a .c .file)) (a .c .budget) _ (b .open-read .result) (step-by (a .c) (a .bytes .now) Action.OpenRead (t .enum-told3 .given .1)) (g .given-session .ensures) (b .open-read .ensures) (c .told3 .ensures)
 
 returns-4 : tie.Need-returns-4
 returns-4 c =
@@ -37,7 +37,7 @@ returns-4 c =
     let t = b .before .before in
     let g = t .before .before in
     let a = g .before .before .before .args in
-    λ m. performed-call (a .v .now) (b .commit .last .0) (a .s) (g .given-session .result) m (c .told4 .result) (a .c .crash) (commit (a .c .client)) (a .c .budget) _ (b .commit .result) (step-by (a .c) (a .bytes .now) Action.Commit (t .enum-told4 .given .1)) (g .given-session .ensures) (b .commit .ensures) (c .told4 .ensures)
+    λ m. performed-call (a .v .now) (b .write .last .0) (a .s) (g .given-session .result) m (c .told4 .result) (a .c .crash) (write (a .c .client) (a .c .file) (a .c .page) (a .bytes .now)) (a .c .budget) _ (b .write .result) (step-by (a .c) (a .bytes .now) Action.Write (t .enum-told4 .given .1)) (g .given-session .ensures) (b .write .ensures) (c .told4 .ensures)
 
 returns-5 : tie.Need-returns-5
 returns-5 c =
@@ -45,19 +45,24 @@ returns-5 c =
     let t = b .before .before in
     let g = t .before .before in
     let a = g .before .before .before .args in
-    λ m. performed-call (a .v .now) (b .abort .last .0) (a .s) (g .given-session .result) m (c .told5 .result) (a .c .crash) (abort (a .c .client)) (a .c .budget) _ (b .abort .result) (step-by (a .c) (a .bytes .now) Action.Abort (t .enum-told5 .given .1)) (g .given-session .ensures) (b .abort .ensures) (c .told5 .ensures)
+    λ m. performed-call (a .v .now) (b .commit .last .0) (a .s) (g .given-session .result) m (c .told5 .result) (a .c .crash) (commit (a .c .client)) (a .c .budget) _ (b .commit .result) (step-by (a .c) (a .bytes .now) Action.Commit (t .enum-told5 .given .1)) (g .given-session .ensures) (b .commit .ensures) (c .told5 .ensures)
 
 returns-6 : tie.Need-returns-6
 returns-6 c =
+    let b = c .before .before .before in
+    let t = b .before .before in
+    let g = t .before .before in
+    let a = g .before .before .before .args in
+    λ m. performed-call (a .v .now) (b .abort .last .0) (a .s) (g .given-session .result) m (c .told6 .result) (a .c .crash) (abort (a .c .client)) (a .c .budget) _ (b .abort .result) (step-by (a .c) (a .bytes .now) Action.Abort (t .enum-told6 .given .1)) (g .given-session .ensures) (b .abort .ensures) (c .told6 .ensures)
+
+returns-7 : tie.Need-returns-7
+returns-7 c =
     let t = c .before .before in
     let g = t .before .before in
     let a = g .before .before .before .args in
-    λ m. performed-query (a .v .now) (a .s) (g .given-session .result) m (a .c .crash) (queryOf (a .c)) _ (c .read .result) (step-by (a .c) (a .bytes .now) Action.Read (t .enum-told6 .given .1)) (g .given-session .ensures) (c .read .ensures)
+    λ m. performed-query (a .v .now) (a .s) (g .given-session .result) m (a .c .crash) (queryOf (a .c)) _ (c .read .result) (step-by (a .c) (a .bytes .now) Action.Read (t .enum-told7 .given .1)) (g .given-session .ensures) (c .read .ensures)
 
 pub perform-spec : {M : Type 1} → statement M
-perform-spec = tie.close (tie.spec (λ c κs. search needs) (λ c. search needs) (λ c κs. search needs)
-    (λ c κs. search needs) (λ c. search needs) (λ c κs. search needs) (λ c κs. search needs) (λ c. search needs)
-    (λ c κs. search needs) (λ c κs. search needs) (λ c. search needs) (λ c κs. search needs) (λ c κs. search needs)
-    (λ c. search needs) (λ c κs. search needs) (λ c κs. search needs) (λ c. search needs) (λ c κs. search needs)
+perform-spec = tie.close (tie.spec (λ c κs. search needs) (λ c. search needs) (λ c κs. search needs) (λ c κs. search needs) (λ c. search needs) (λ c κs. search needs) (λ c κs. search needs) (λ c. search needs) (λ c κs. search needs) (λ c κs. search needs) (λ c. search needs) (λ c κs. search needs) (λ c κs. search needs) (λ c. search needs) (λ c κs. search needs) (λ c κs. search needs) (λ c. search needs) (λ c κs. search needs) (λ c κs. search needs) (λ c. search needs) (λ c κs. search needs)
     (λ c. search needs) returns (λ c. search needs) returns-2 (λ c. search needs) returns-3 (λ c. search needs)
-    returns-4 (λ c. search needs) returns-5 (λ c. search needs) returns-6)
+    returns-4 (λ c. search needs) returns-5 (λ c. search needs) returns-6 (λ c. search needs) returns-7)
