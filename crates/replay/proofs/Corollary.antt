@@ -23,7 +23,7 @@ use Rattle.replay.specs.declared.Replayed.{Replayed}
 use Rattle.replay.specs.Scripts.{steps}
 use Rattle.replay.specs.Transcripts.{transcript, eventsIn}
 use Rattle.replay.specs.Replays.{Left, noRoom, ran, replayAnswerOf, leftBy, hasRoom, runLeft, runFormatted, formattedAndRun, AllOrNoneFor, WhereRun}
-use Rattle.replay.proofs.BackLaws.{events-back}
+use Rattle.replay.proofs.BackLaws.{new-four, events-back}
 
 -- The first steps say what they say in the whole list.
 events-take : (r : Configuration) (xs : List Step) (n : ℕ) → eventsOf r (take n xs) ≡ take n (eventsOf r xs)
@@ -43,7 +43,7 @@ module _ (v : Volume) (T : ℕ) (l script out : Bytes) where
   ran-claim d =
       let r : Configuration = started (format v T l .volume) in
       let xs : List Step = steps script in
-      rw (events-back r xs (drop (length (transcript (eventsOf r xs))) out) refl) (transcripts-agree v T l d xs)
+      rw (events-back r xs (drop (length (transcript (eventsOf r xs))) out) new-four) (transcripts-agree v T l d xs)
 
   -- So it is after each step: of the first n steps, what the transcript says of them, and the volume that they leave.
   pub after-each-step : format v T l .answer ≡ formatDone → (n : ℕ)
@@ -54,7 +54,7 @@ module _ (v : Volume) (T : ℕ) (l script out : Bytes) where
   after-each-step d n =
       let r : Configuration = started (format v T l .volume) in
       let xs : List Step = steps script in
-      rw (events-back r xs (drop (length (transcript (eventsOf r xs))) out) refl, ← events-take r xs n) (transcripts-agree v T l d (take n xs))
+      rw (events-back r xs (drop (length (transcript (eventsOf r xs))) out) new-four, ← events-take r xs n) (transcripts-agree v T l d (take n xs))
 
   formatted-claim : (a : FormatAnswer) → format v T l .answer ≡ a
       → Claimed (tableFor (length v) T l) script (runFormatted a (format v T l .volume) script out)

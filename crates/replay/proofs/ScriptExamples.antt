@@ -11,7 +11,7 @@ use Rattle.interface.specs.Answers.{newSession, done, crashed, refused, found, 
 use Rattle.sector.specs.Contents.{Bytes, Table}
 use Rattle.sector.specs.Sectors.{byte, padded}
 use Rattle.volume.specs.Volumes.{Volume}
-use Rattle.rules.specs.Plans.{begin, openFile, write, commit, abort, readPage}
+use Rattle.rules.specs.Plans.{begin, openFile, openRead, write, commit, abort, readPage}
 use Rattle.atomicity.specs.Model.{newModel}
 use Rattle.atomicity.specs.Runs.{Step, calls, asks}
 use Rattle.atomicity.specs.AllOrNone.{PagesAgree}
@@ -23,7 +23,7 @@ use Rattle.replay.specs.Replays.{ran, hasRoom, AllOrNoneFor, WhereRun}
 
 -- ------------------------------------------------------------------ scripts
 -- Begin 1 with a budget of 255; the supply fails, and client 2 opens file 3 with a budget of 4; a write of three bytes; commit,
--- abort, two reads, by 5 and by 255; and a begin that isn't whole.
+-- abort, client 3 opens file 4 for reading with a budget of 9, two reads, by 5 and by 255; and a begin that isn't whole.
 abbrev script : Bytes
 script =
     0 ∷ 0 ∷ 1 ∷ 0 ∷ 0 ∷ 255 ∷ 0 ∷ 0
@@ -31,6 +31,7 @@ script =
     ∷ 2 ∷ 0 ∷ 1 ∷ 2 ∷ 5 ∷ 6 ∷ 3 ∷ 0 ∷ 0xAA ∷ 0xBB ∷ 0xCC
     ∷ 3 ∷ 0 ∷ 1 ∷ 0 ∷ 0 ∷ 7 ∷ 0 ∷ 0
     ∷ 4 ∷ 0 ∷ 2 ∷ 0 ∷ 0 ∷ 8 ∷ 0 ∷ 0
+    ∷ 6 ∷ 0 ∷ 3 ∷ 4 ∷ 0 ∷ 9 ∷ 0 ∷ 0
     ∷ 5 ∷ 2 ∷ 1 ∷ 2 ∷ 5 ∷ 0 ∷ 0 ∷ 0
     ∷ 255 ∷ 0 ∷ 3 ∷ 4 ∷ 6 ∷ 0 ∷ 0 ∷ 0
     ∷ 0 ∷ 0 ∷ 1 ∷ 0 ∷ 0 ∷ 255 ∷ 0
@@ -43,6 +44,7 @@ itsSteps =
     ∷ calls false (write 1 2 5 (0xAA ∷ 0xBB ∷ 0xCC ∷ [])) 6
     ∷ calls false (commit 1) 7
     ∷ calls false (abort 2) 8
+    ∷ calls false (openRead 3 4) 9
     ∷ asks true (readPage 1 2 5)
     ∷ asks false (readPage 3 4 6)
     ∷ []
@@ -61,19 +63,26 @@ cut-step : steps (2 ∷ 0 ∷ 1 ∷ 1 ∷ 0 ∷ 255 ∷ 3 ∷ 0 ∷ 0xAA ∷ 0xB
 unfolding stepsFrom stepIn commandIn stepOf isWhole
 cut-step = refl
 
--- Four bytes for each of the five calls, 516 for each read: 1,052 are enough, 1,051 are not.
-enough-room : hasRoom script 1052 ≡ true
+-- Twelve bytes for each of the six calls, 524 for each read: 1,120 are enough, 1,119 are not.
+enough-room : hasRoom script 1120 ≡ true
 unfolding hasRoom stepsFrom stepIn commandIn stepOf isWhole
 enough-room = refl
 
-too-little-room : hasRoom script 1051 ≡ false
+too-little-room : hasRoom script 1119 ≡ false
 unfolding hasRoom stepsFrom stepIn commandIn stepOf isWhole
 too-little-room = refl
 
 -- ------------------------------------------------------------------ transcripts
--- Clients 1 and 3 are active.
+-- Clients 1 and 3 are active. Client 1 reads files 1 and 16, client 2 file 2, client 3 file 9, client 4 none.
 abbrev active13 : Session
-active13 = record { active = true ∷ false ∷ true ∷ false ∷ [] }
+active13 = record { active = true ∷ false ∷ true ∷ false ∷ []; reading = 0x8001 ∷ 2 ∷ 0x100 ∷ 0 ∷ [] }
+
+-- Its nine bytes, and those of a new session.
+abbrev nine : Bytes
+nine = 5 ∷ 0x01 ∷ 0x80 ∷ 2 ∷ 0 ∷ 0 ∷ 1 ∷ 0 ∷ 0 ∷ []
+
+abbrev newNine : Bytes
+newNine = replicate 9 0
 
 abbrev ofCalls : List Event
 ofCalls =
@@ -82,7 +91,7 @@ ofCalls =
     ∷ record { answer = ofCall (refused 11); session = active13; bytes = []; part = [] }
     ∷ []
 
-calls-told : transcript ofCalls ≡ 0 ∷ 2 ∷ 0 ∷ 5 ∷ 1 ∷ 1 ∷ 0 ∷ 0 ∷ 2 ∷ 11 ∷ 0 ∷ 5 ∷ []
+calls-told : transcript ofCalls ≡ (0 ∷ 2 ∷ 0 ∷ nine) ++ ((1 ∷ 1 ∷ 0 ∷ newNine) ++ (2 ∷ 11 ∷ 0 ∷ nine))
 unfolding entryOf headBytes
 calls-told = refl
 
@@ -97,7 +106,7 @@ ofReads =
     ∷ []
 
 reads-told : transcript ofReads
-    ≡ 3 ∷ 44 ∷ 1 ∷ 5 ∷ (page ++ (page ++ (2 ∷ 8 ∷ 0 ∷ 5 ∷ replicate 512 0)))
+    ≡ (3 ∷ 44 ∷ 1 ∷ nine) ++ (page ++ (page ++ ((2 ∷ 8 ∷ 0 ∷ nine) ++ replicate 512 0)))
 unfolding entryOf headBytes padded
 reads-told = refl
 
@@ -109,7 +118,7 @@ told-back : eventsIn five (transcript ofCalls ++ (transcript ofReads ++ (1 ∷ 2
 unfolding entryOf headBytes padded eventIn
 told-back = refl
 
-two-pages : eventsIn (asks false (readPage 1 2 3) ∷ []) (3 ∷ 6 ∷ 0 ∷ 0 ∷ (page ++ replicate 256 0xB2))
+two-pages : eventsIn (asks false (readPage 1 2 3) ∷ []) ((3 ∷ 6 ∷ 0 ∷ newNine) ++ (page ++ replicate 256 0xB2))
     ≡ record { answer = ofQuery (found 6); session = newSession; bytes = page; part = replicate 256 0xB2 } ∷ []
 unfolding eventIn
 two-pages = refl
@@ -134,10 +143,10 @@ readScript = 5 ∷ 0 ∷ 1 ∷ 1 ∷ 0 ∷ 0 ∷ 0 ∷ 0 ∷ []
 abbrev zeros : Bytes
 zeros = replicate 256 0
 
-other-bytes : (t : Table) (v : Volume) → AllOrNoneFor t readScript v (3 ∷ 4 ∷ 0 ∷ 1 ∷ (page ++ zeros)) → ⊥
+other-bytes : (t : Table) (v : Volume) → AllOrNoneFor t readScript v ((3 ∷ 4 ∷ 0 ∷ 1 ∷ replicate 8 0) ++ (page ++ zeros)) → ⊥
 unfolding stepsFrom stepIn commandIn stepOf isWhole eventIn
 other-bytes t v h = let e : _≡_ {A = ℕ} 0xA1 0 = ap (λ (l : Bytes). byte l 0) (h .0 .0) in omega arith
 
-other-part : (t : Table) (v : Volume) → AllOrNoneFor t readScript v (3 ∷ 4 ∷ 0 ∷ 1 ∷ (zeros ++ page)) → ⊥
+other-part : (t : Table) (v : Volume) → AllOrNoneFor t readScript v ((3 ∷ 4 ∷ 0 ∷ 1 ∷ replicate 8 0) ++ (zeros ++ page)) → ⊥
 unfolding stepsFrom stepIn commandIn stepOf isWhole eventIn
 other-part t v h = let e : _≡_ {A = ℕ} 0xA1 0 = ap (λ (l : Bytes). byte l 0) (h .0 .1) in omega arith

@@ -10,9 +10,9 @@ use Rattle.interface.specs.declared.Session.{Session}
 use Rattle.interface.specs.declared.Refusal.{Refusal}
 use Rattle.interface.specs.declared.Outcome.{Outcome}
 use Rattle.interface.specs.declared.QueryOutcome.{QueryOutcome}
-use Rattle.interface.specs.Answers.{sessionByte, Answer, done, crashed, refused, QueryAnswer, found, queryRefused, refusalNumber, answerOf, queryAnswerOf}
+use Rattle.interface.specs.Answers.{Answer, done, crashed, refused, QueryAnswer, found, queryRefused, refusalNumber, answerOf, queryAnswerOf}
 use Rattle.sector.specs.Contents.{Bytes}
-use Rattle.sector.specs.Sectors.{sector, byte, word, padded, zeroSector}
+use Rattle.sector.specs.Sectors.{sector, byte, word, wordBytes, padded, zeroSector}
 use Rattle.volume.specs.Volumes.{Volume}
 use Rattle.sector.proofs.CodecLaws.{padded-length}
 use Rattle.sector.proofs.SectorLaws.{sector-length}
@@ -34,11 +34,11 @@ use Rattle.replay.specs.Transcripts.{headBytes, answerBytes, entryOf, tr
 use Rattle.replay.specs.Walks.{actionLength, noted, IsAnswer}
 
 -- ------------------------------------------------------------------ lengths
-head-length : (k n : ℕ) (s : Session) → length (headBytes k n s) ≡ 4
+head-length : (k n : ℕ) (s : Session) → length (headBytes k n s) ≡ 12
 unfolding headBytes
 head-length k n s = refl
 
-pub answer-length : (x : StepAnswer) (s : Session) → length (answerBytes x s) ≡ 4
+pub answer-length : (x : StepAnswer) (s : Session) → length (answerBytes x s) ≡ 12
 answer-length (ofCall (done n)) s = head-length 0 n s
 answer-length (ofCall (crashed n)) s = head-length 1 n s
 answer-length (ofCall (refused n)) s = head-length 2 n s
@@ -51,12 +51,12 @@ part-length v (found n) = omega (arith, length-take 256 (drop (256 * n) v))
 part-length v (queryRefused n) = omega arith
 
 pub call-length : (x : Answer) (s : Session) (b d : Bytes)
-    → length (entryOf (record { answer = ofCall x; session = s; bytes = b; part = d })) ≡ 4
+    → length (entryOf (record { answer = ofCall x; session = s; bytes = b; part = d })) ≡ 12
 unfolding entryOf
 call-length x s b d = length-append (answerBytes (ofCall x) s) [] ∙ omega (arith, answer-length (ofCall x) s)
 
 pub query-length : (x : QueryAnswer) (s : Session) (b d : Bytes) → length b ≤ 256 → length d ≤ 256
-    → length (entryOf (record { answer = ofQuery x; session = s; bytes = b; part = d })) ≡ 516
+    → length (entryOf (record { answer = ofQuery x; session = s; bytes = b; part = d })) ≡ 524
 unfolding entryOf
 query-length x s b d h g =
     length-append (answerBytes (ofQuery x) s) (padded b ++ padded d)
@@ -127,6 +127,7 @@ module _ (v w : Volume) (s : Session) (m : Model) (c : Command) (d : Bytes) (p :
   unfolding stepped
   by-action Action.Begin h = record { event = noted-call w s c (p .told) (p .session) _ (h .answer) ∙ rw (h .session); answer = any-call w s c (p .told) _ (h .answer) }
   by-action Action.Open h = record { event = noted-call w s c (p .told) (p .session) _ (h .answer) ∙ rw (h .session); answer = any-call w s c (p .told) _ (h .answer) }
+  by-action Action.OpenRead h = record { event = noted-call w s c (p .told) (p .session) _ (h .answer) ∙ rw (h .session); answer = any-call w s c (p .told) _ (h .answer) }
   by-action Action.Write h = record { event = noted-call w s c (p .told) (p .session) _ (h .answer) ∙ rw (h .session); answer = any-call w s c (p .told) _ (h .answer) }
   by-action Action.Commit h = record { event = noted-call w s c (p .told) (p .session) _ (h .answer) ∙ rw (h .session); answer = any-call w s c (p .told) _ (h .answer) }
   by-action Action.Abort h = record { event = noted-call w s c (p .told) (p .session) _ (h .answer) ∙ rw (h .session); answer = any-call w s c (p .told) _ (h .answer) }
@@ -145,10 +146,10 @@ module _ (v : Volume) (s : Session) (c : Command) (t : Told) (q : Session) where
   unfolding entryOf
   call-entry o e = rw e (sym (append-nil (answerBytes (ofCall (answerOf o)) q)))
 
-  pub call-room : (o : Outcome) → t ≡ Told.Call o → length (entryOf (noted v s c t q)) ≡ 4
+  pub call-room : (o : Outcome) → t ≡ Told.Call o → length (entryOf (noted v s c t q)) ≡ 12
   call-room o e = rw e (call-length (answerOf o) q [] [])
 
-  pub query-room : (o : QueryOutcome) → t ≡ Told.Query o → length (entryOf (noted v s c t q)) ≡ 516
+  pub query-room : (o : QueryOutcome) → t ≡ Told.Query o → length (entryOf (noted v s c t q)) ≡ 524
   query-room o e = rw e (query-length (queryAnswerOf o) q _ _ (part-length v (queryAnswerOf o)) (part-length v (query v (given (c .crash) s) (queryOf c))))
 
   pub query-answer : (o : QueryOutcome) → t ≡ Told.Query o → IsAnswer v s c t
@@ -158,6 +159,7 @@ module _ (v : Volume) (s : Session) (c : Command) (t : Told) (q : Session) where
 by-length : (a : Action) (c : Command) (d : Bytes) → actionLength a ≡ entryLength (stepBy a c d)
 by-length Action.Begin c d = refl
 by-length Action.Open c d = refl
+by-length Action.OpenRead c d = refl
 by-length Action.Write c d = refl
 by-length Action.Commit c d = refl
 by-length Action.Abort c d = refl
@@ -175,21 +177,21 @@ entry-is at l i j =
     let y : byte l at ≡ byte (drop at l) 0 = rw (getD-drop at l 0 0, z) in
     j ∙ ap actionLength (i ∙ ap actionOf y) ∙ step-entry (drop at l)
 
--- The four bytes, one after the other.
-pub wrote-head : (b : Bytes) (at kind n : ℕ) (s : Session) (x y z : ℕ) → x ≡ n % 256 → y ≡ n / 256 % 256 → z ≡ sessionByte s → n < 65536
-    → Wrote b at (headBytes kind n s) (set (set (set (set b at kind) (at + 1) x) (at + 2) y) (at + 3) z) (at + 4)
-unfolding headBytes
-wrote-head b at kind n s x y z e f g h =
+-- One byte; the two bytes of a number.
+pub wrote-byte : (b : Bytes) (at x : ℕ) → Wrote b at (x ∷ []) (set b at x) (at + 1)
+wrote-byte b at x = record { bytes = refl; next = refl }
+
+pub wrote-word : (b : Bytes) (at n x y : ℕ) → x ≡ n % 256 → y ≡ n / 256 % 256 → n < 65536
+    → Wrote b at (wordBytes n []) (set (set b at x) (at + 1) y) (at + 2)
+wrote-word b at n x y e f h =
     let y′ : y ≡ n / 256 = omega arith in
-    let two : at + 2 ≡ suc (suc at) = omega arith in
-    let three : at + 3 ≡ suc (suc (suc at)) = omega arith in
-    record { bytes = rw (e, y′, g, add-one at, two, three); next = refl }
+    record { bytes = rw (e, y′, add-one at); next = refl }
 
 -- What was written has kept the length of the buffer.
 pub wrote-length : {b d c : Bytes} {at n : ℕ} → Wrote b at d c n → length c ≡ length b
 wrote-length {b} {d} {c} {at} w = ap length (w .bytes) ∙ length-sets b at d
 
-pub behind-head : (k n : ℕ) (s : Session) {b c : Bytes} {at m : ℕ} → Wrote b at (headBytes k n s) c m → m ≡ at + 4
+pub behind-head : (k n : ℕ) (s : Session) {b c : Bytes} {at m : ℕ} → Wrote b at (headBytes k n s) c m → m ≡ at + 12
 behind-head k n s {b} {c} {at} w = w .next ∙ ap (λ (i : ℕ). at + i) (head-length k n s)
 
 -- A question's entry, by its outcome.

@@ -24,12 +24,13 @@ stepLength l = if isWhole l then stepSize l else 0
 
 -- The length of the entry of a command that is this call.
 abbrev pub actionLength : Action → ℕ
-actionLength Action.Begin = 4
-actionLength Action.Open = 4
-actionLength Action.Write = 4
-actionLength Action.Commit = 4
-actionLength Action.Abort = 4
-actionLength Action.Read = 516
+actionLength Action.Begin = 12
+actionLength Action.Open = 12
+actionLength Action.OpenRead = 12
+actionLength Action.Write = 12
+actionLength Action.Commit = 12
+actionLength Action.Abort = 12
+actionLength Action.Read = 524
 
 -- What is noted of a command on volume v whose answer was this; s is the session before it, q the one last handed back after it.
 abbrev pub noted : Volume → (s : Session) → Command → Told → (q : Session) → Event

@@ -40,6 +40,7 @@ fn action(n: u8) -> Action
         2 => Action::Write,
         3 => Action::Commit,
         4 => Action::Abort,
+        6 => Action::OpenRead,
         _ => Action::Read,
     }
 }
@@ -71,12 +72,13 @@ fn entry_length(a: Action) -> usize
     ensures { λ r. ⌜ r ≡ actionLength a ⌝ }
 {
     match a {
-        Action::Begin => 4,
-        Action::Open => 4,
-        Action::Write => 4,
-        Action::Commit => 4,
-        Action::Abort => 4,
-        Action::Read => 516,
+        Action::Begin => 12,
+        Action::Open => 12,
+        Action::OpenRead => 12,
+        Action::Write => 12,
+        Action::Commit => 12,
+        Action::Abort => 12,
+        Action::Read => 524,
     }
 }
 

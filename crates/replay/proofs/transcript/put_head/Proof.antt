@@ -1,28 +1,39 @@
--- `put_head` meets its contract: four bytes, one after the other.
+-- `put_head` meets its contract: kind, number and session, one behind the other.
+use mathlib.Core.Path.{_∙_}
 use native.Mathlib.Omega.{arith}
 use borrow.Author.Needs.{needs}
 use lib.ListN.{length-set}
-use Rattle.replay.proofs.TranscriptLaws.{wrote-head}
+use Rattle.text.proofs.WritesLaws.{wrote-more}
+use Rattle.replay.specs.Transcripts.{headBytes}
+use Rattle.replay.proofs.TranscriptLaws.{wrote-byte, wrote-length}
 use Rattle.replay.proofs.transcript.put_head.Statement.{statement}
 use Rattle.replay.proofs.transcript.put_head.Tie as tie
 
-slice-write-out-2 : tie.Need-slice-write-out-2
-slice-write-out-2 c = simp length-set (omega (arith, c .before .before .pre .0))
+put-word-requires : tie.Need-put-word-requires
+put-word-requires c κs =
+    let s = c .before .before in
+    (simp length-set (omega (arith, s .pre .0)), s .pre .1)
 
-slice-write-out-3 : tie.Need-slice-write-out-3
-slice-write-out-3 c = simp length-set (omega (arith, c .before .before .before .pre .0))
+put-session-requires : tie.Need-put-session-requires
+put-session-requires c κs =
+    let p = c .before .before .before in
+    let s = p .before .before .before in
+    omega (arith, s .pre .0, length-set (s .args .out .now) (s .args .at) (s .args .kind), wrote-length (p .put-word .ensures), p .put-word .ensures .next)
 
-slice-write-out-4 : tie.Need-slice-write-out-4
-slice-write-out-4 c = simp length-set (omega (arith, c .before .before .before .before .pre .0))
+same-length : tie.Need-same-length
+same-length c =
+    let q = c .before .before in
+    let p = q .before .before .before .before in
+    let s = p .before .before .before in
+    wrote-length (q .put-session .ensures) ∙ wrote-length (p .put-word .ensures) ∙ length-set (s .args .out .now) (s .args .at) (s .args .kind)
 
 returns : tie.Need-returns
+unfolding headBytes
 returns c =
-    let h = c .before in
-    let l = h .before in
-    let a = l .before .before .args in
-    wrote-head (a .out .now) (a .at) (a .kind) (a .number) (a .s) (l .low .result) (h .low2 .result) (c .session-byte .result) (l .low .ensures) (h .low2 .ensures) (c .session-byte .ensures .0) (l .before .before .pre .1)
+    let q = c .before .before in
+    let p = q .before .before .before .before in
+    let s = p .before .before .before in
+    wrote-more (wrote-byte (s .args .out .now) (s .args .at) (s .args .kind)) (wrote-more (p .put-word .ensures) (q .put-session .ensures))
 
 pub put-head-spec : {M : Type 1} → statement M
-put-head-spec = tie.close (tie.spec (λ c. search needs) (λ c κs. search needs) (λ c. search needs) slice-write-out-2
-    (λ c κs. search needs) (λ c. search needs) slice-write-out-3 (λ c κs. search needs) (λ c. search needs)
-    slice-write-out-4 (λ c. search needs) (λ c. search needs) returns)
+put-head-spec = tie.close (tie.spec (λ c. search needs) (λ c. search needs) put-word-requires put-session-requires same-length returns)

@@ -21,12 +21,12 @@ part-requires c κs =
     let t = c .before .before .before .before .before .before .before .before in
     let s = t .before .before .before .before in
     let a = s .args in
-    rw (c .wide-sector2 .ensures .0) (inside-found (a .v .now) (a .s) (a .c) (a .o) (a .q) (s .pre .1) (t .o2 .given .0 .0) (t .o2 .given .1))
+    rw (c .wide-word2 .ensures .0) (inside-found (a .v .now) (a .s) (a .c) (a .o) (a .q) (s .pre .1) (t .o2 .given .0 .0) (t .o2 .given .1))
 
 put-requires : tie.Need-put-requires
 put-requires c κs =
     let h = c .before .before .before .before .before in
-    omega (arith, c .part .ensures .1, wrote-length (h .put-head2 .ensures), behind-head 3 (h .before .wide-sector .result) (h .before .before .before .before .before .before .before .before .args .q) (h .put-head2 .ensures))
+    omega (arith, c .part .ensures .1, wrote-length (h .put-head2 .ensures), behind-head 3 (h .before .wide-word .result) (h .before .before .before .before .before .before .before .before .args .q) (h .put-head2 .ensures))
 
 put-requires-2 : tie.Need-put-requires-2
 put-requires-2 c κs =
@@ -34,7 +34,7 @@ put-requires-2 c κs =
     let h = p .before .before .before .before .before .before in
     let s = h .before .before .before .before .before .before .before .before in
     let a = s .args in
-    let behind = behind-head 3 (h .before .wide-sector .result) (a .q) (h .put-head2 .ensures) in
+    let behind = behind-head 3 (h .before .wide-word .result) (a .q) (h .put-head2 .ensures) in
     let size = shown-length (a .v .now) (given (a .c .crash) (a .s)) (queryOf (a .c)) in
     omega (arith, p .before .part .ensures .1, wrote-length (h .put-head2 .ensures), behind, wrote-length (p .put .ensures), p .put .ensures .next, ap length (c .page .ensures), size, s .pre .0)
 
@@ -58,8 +58,8 @@ returns-2 c =
     let t = h .before .before .before .before in
     let s = t .before .before .before .before in
     let a = s .args in
-    let w = wrote-more (rw (h .before .wide-sector .ensures .0) at (h .put-head2 .ensures))
-    (wrote-more (rw (d .part .ensures .0, d .before .wide-sector2 .ensures .0) at (p .put .ensures)) (rw (g .before .page .ensures) at (g .put2 .ensures))) in
+    let w = wrote-more (rw (h .before .wide-word .ensures .0) at (h .put-head2 .ensures))
+    (wrote-more (rw (d .part .ensures .0, d .before .wide-word2 .ensures .0) at (p .put .ensures)) (rw (g .before .page .ensures) at (g .put2 .ensures))) in
     rw (found-entry (a .v .now) (a .s) (a .c) (a .o) (a .q) (s .pre .1) (t .o2 .given .0 .0) (t .o2 .given .1)) at w
 
 pub put-query-spec : {M : Type 1} → statement M
