@@ -2,6 +2,7 @@
 use interface::FormatOutcome;
 use interface::Outcome;
 use interface::QueryOutcome;
+use interface::Session;
 use script::texts::hex;
 
 pub fn put(text: &[u8]) {
@@ -59,6 +60,33 @@ pub fn put_read(o: QueryOutcome, page: &[u8]) {
         }
         QueryOutcome::Refused(r) => put_line(b"refused ", wide(interface::number(r))),
     }
+}
+
+// The reading hold of this client and file, if the session has it.
+fn put_hold(s: Session, k: u8, f: u8) {
+    if commands::inspect::shows_hold(s, k, f) {
+        put(b"kiln ");
+        io::print_decimal(1, wide(k));
+        put_line(b" reads ", wide(f));
+    }
+}
+
+// The reading holds of this client, rising by file.
+fn put_holds(s: Session, k: u8) {
+    let mut f: u8 = 1;
+    while f < 17 {
+        put_hold(s, k, f);
+        f += 1;
+    }
+}
+
+// The marks of a session, and its reading holds, rising by client and then by file.
+pub fn put_session(s: Session) {
+    put_line(b"session ", wide(interface::marks_byte(s)));
+    put_holds(s, 1);
+    put_holds(s, 2);
+    put_holds(s, 3);
+    put_holds(s, 4);
 }
 
 // What the listing program prints for the volume.

@@ -4,6 +4,7 @@ use crate::print::put_hex;
 use crate::print::put_list;
 use crate::print::put_outcome;
 use crate::print::put_read;
+use crate::print::put_session;
 use commands::Action;
 use commands::Told;
 use interface::Session;
@@ -38,6 +39,25 @@ fn run_call(v: &mut [u8], s: Session, a: Action, line: &[u8]) -> Turn {
     }
 }
 
+// `reading K F`
+fn add_hold(s: Session, line: &[u8]) -> Turn {
+    let added = commands::inspect::reading(s, line);
+    let next = added.session;
+    Turn {
+        session: next,
+        is_understood: added.is_named,
+    }
+}
+
+// `session`
+fn show(s: Session) -> Turn {
+    put_session(s);
+    Turn {
+        session: s,
+        is_understood: true,
+    }
+}
+
 // `dump S`: whether there is such a sector.
 fn dump(v: &[u8], line: &[u8]) -> bool {
     let part = commands::inspect::dump(v, line);
@@ -66,6 +86,7 @@ fn run_line(v: &mut [u8], s: Session, kind: Kind, line: &[u8]) -> Turn {
     match kind {
         Kind::Begin => run_call(v, s, Action::Begin, line),
         Kind::Open => run_call(v, s, Action::Open, line),
+        Kind::OpenRead => run_call(v, s, Action::OpenRead, line),
         Kind::Write => run_call(v, s, Action::Write, line),
         Kind::Commit => run_call(v, s, Action::Commit, line),
         Kind::Abort => run_call(v, s, Action::Abort, line),
@@ -74,6 +95,8 @@ fn run_line(v: &mut [u8], s: Session, kind: Kind, line: &[u8]) -> Turn {
             session: commands::inspect::session(line),
             is_understood: true,
         },
+        Kind::ShowSession => show(s),
+        Kind::Reading => add_hold(s, line),
         _ => Turn {
             session: s,
             is_understood: inspect(v, kind, line),

@@ -32,7 +32,7 @@ impl Book {
         if let Call::Read { .. } = call {
             return;
         }
-        if session.is_new() {
+        if session.has_no_mark() {
             self.empty_slips();
         }
         match (*call, answer) {
@@ -58,6 +58,11 @@ impl Book {
         let slip = self.slips.get(usize::from(client).checked_sub(1)?)?;
         let booked = || self.files.get(usize::from(file).checked_sub(1)?)?.get(usize::from(page));
         slip.get(&(file, page)).or_else(booked).map(|bytes| bytes.as_slice())
+    }
+
+    /// Whether a page of the file is on the client's slip.
+    pub fn has_on_slip(&self, client: u8, file: u8) -> bool {
+        self.slips[usize::from(client) - 1].keys().any(|key| key.0 == file)
     }
 
     /// The book's pages in order, rising by file and then by page.

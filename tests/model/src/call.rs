@@ -10,6 +10,7 @@ use crate::volume::{self, Outcome, Read, Session};
 pub enum Call<'a> {
     Begin { client: u8, budget: u8 },
     Open { client: u8, file: u8, budget: u8 },
+    OpenRead { client: u8, file: u8, budget: u8 },
     Read { client: u8, file: u8, page: u8 },
     Write { client: u8, file: u8, page: u8, data: &'a [u8], budget: u8 },
     Commit { client: u8, budget: u8 },
@@ -61,6 +62,7 @@ impl Call<'_> {
         let (after, outcome) = match *self {
             Call::Begin { client, budget } => volume::begin(volume, session, client, budget),
             Call::Open { client, file, budget } => volume::open(volume, session, client, file, budget),
+            Call::OpenRead { client, file, budget } => volume::open_read(volume, session, client, file, budget),
             Call::Read { client, file, page } => {
                 return (session, volume::read(volume, session, client, file, page).into());
             }
@@ -78,6 +80,7 @@ impl Call<'_> {
         match *self {
             Call::Begin { budget, .. }
             | Call::Open { budget, .. }
+            | Call::OpenRead { budget, .. }
             | Call::Write { budget, .. }
             | Call::Commit { budget, .. }
             | Call::Abort { budget, .. } => Some(budget),
@@ -90,6 +93,7 @@ impl Call<'_> {
         match &mut self {
             Call::Begin { budget, .. }
             | Call::Open { budget, .. }
+            | Call::OpenRead { budget, .. }
             | Call::Write { budget, .. }
             | Call::Commit { budget, .. }
             | Call::Abort { budget, .. } => *budget = new,

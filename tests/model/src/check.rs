@@ -1,18 +1,21 @@
 //! Two engines side by side, and the book beside them.
 //!
 //! A [`World`] plays the lines of a script on both engines. After every call
-//! it compares replies and every byte of the two volumes, tests the rules
-//! that each call keeps whatever its arguments, and, from a layout on and
-//! without damage or foreign sessions, sets the decided content and each read
-//! against the book.
+//! it compares answers, sessions and every byte of the two volumes, tests the
+//! rules that each call keeps whatever its arguments and asks what readers are
+//! shown. From a layout on, without damage or foreign sessions, it sets the
+//! decided content and each read against the book.
 
 use crate::book::Book;
 use crate::call::{Answer, Call};
 use crate::content;
-use crate::engine::{Engine, Reply};
+use crate::engine::Engine;
+use crate::expected;
 use crate::posix::{Lender, Placement, Shared};
+use crate::readers;
+use crate::reply::{RawSession, Reply};
 use crate::script::{Line, MAX_DATA, MAX_VOLUME};
-use crate::volume::{self, Session, MAX_LISTING, SECTOR_SIZE};
+use crate::volume::{self, Session, MAX_FILES, MAX_LISTING, SECTOR_SIZE};
 
 /// What the driver counts, as places in the shared tallies.
 pub mod tally {
@@ -24,15 +27,24 @@ pub mod tally {
     pub const SECTOR: usize = 5;
     /// Refusal n is counted at this place + n.
     pub const REFUSED: usize = 6;
-    pub const AGAINST_BOOK: usize = 22;
-    pub const READS_AGAINST_BOOK: usize = 23;
-    pub const LISTINGS: usize = 24;
-    pub const FLIPS: usize = 25;
-    pub const FLIPS_SOUND: usize = 26;
-    pub const CRAFTED: usize = 27;
-    pub const CRAFTED_SOUND: usize = 28;
-    pub const CUT_SWEEPS: usize = 29;
-    pub const PREFIXES: usize = 30;
+    pub const AGAINST_BOOK: usize = 23;
+    pub const READS_AGAINST_BOOK: usize = 24;
+    pub const LISTINGS: usize = 25;
+    pub const FLIPS: usize = 26;
+    pub const FLIPS_SOUND: usize = 27;
+    pub const CRAFTED: usize = 28;
+    pub const CRAFTED_SOUND: usize = 29;
+    pub const CUT_SWEEPS: usize = 30;
+    pub const PREFIXES: usize = 31;
+    /// Files opened for reading, those of an interrupted client, and those
+    /// opened for writing by their only reader.
+    pub const OPEN_READS: usize = 32;
+    pub const OPEN_READS_RECOVERING: usize = 33;
+    pub const UPGRADES: usize = 34;
+    /// Steps after which readers were asked what they are shown, and those
+    /// after which several read one file.
+    pub const READERS_SHOWN: usize = 35;
+    pub const SEVERAL_READERS: usize = 36;
 }
 
 /// Up to this length every shorter budget of a call is tried as well.
@@ -47,7 +59,9 @@ pub struct World {
     /// is brought up to date when another length is lent.
     buffer: Vec<u8>,
     length: usize,
-    session: u8,
+    session: RawSession,
+    /// The session that the last call handed back.
+    handed: RawSession,
     book: Option<Book>,
     /// The volume before the call in progress.
     before: Vec<u8>,
@@ -59,7 +73,8 @@ pub struct World {
 /// A state to come back to.
 pub struct Snapshot {
     bytes: Vec<u8>,
-    session: u8,
+    session: RawSession,
+    handed: RawSession,
     book: Option<Book>,
     text_length: usize,
 }
@@ -75,7 +90,8 @@ impl World {
             lent: Lender::new(MAX_DATA.max(MAX_LISTING), placement),
             buffer: vec![0; MAX_VOLUME],
             length: 0,
-            session: 0,
+            session: RawSession::default(),
+            handed: RawSession::default(),
             book: None,
             before: Vec::with_capacity(MAX_VOLUME),
             shared,
@@ -87,7 +103,8 @@ impl World {
     pub fn reset(&mut self) {
         self.buffer.fill(0);
         self.length = 0;
-        self.session = 0;
+        self.session = RawSession::default();
+        self.handed = RawSession::default();
         self.book = None;
     }
 
@@ -95,7 +112,7 @@ impl World {
         self.volumes[0].bytes(self.length)
     }
 
-    pub fn session(&self) -> u8 {
+    pub fn session(&self) -> RawSession {
         self.session
     }
 
@@ -107,6 +124,7 @@ impl World {
         Snapshot {
             bytes: self.volume().to_vec(),
             session: self.session,
+            handed: self.handed,
             book: self.book.clone(),
             text_length: self.shared.text_length(),
         }
@@ -119,6 +137,7 @@ impl World {
             lender.array(self.length).copy_from_slice(&snapshot.bytes);
         }
         self.session = snapshot.session;
+        self.handed = snapshot.handed;
         self.book.clone_from(&snapshot.book);
         if self.tracing {
             self.shared.cut_text(snapshot.text_length);
@@ -133,24 +152,16 @@ impl World {
         match line {
             Line::Format { length, clients, shape } => return self.format(*length, *clients, shape).map(Some),
             Line::Call(call) => return self.call(call).map(Some),
-            Line::Session(marks) => self.take_session(*marks),
+            Line::Session(marks) => self.session = RawSession::of_marks(*marks),
+            Line::Reading { client, file } => self.session.add_hold(*client, *file),
             Line::Poke { address, byte } => self.poke(*address, *byte),
-            Line::Dump(_) => {}
+            Line::Dump(_) | Line::ShowSession => {}
             Line::List => self.list()?,
         }
         Ok(None)
     }
 
     // ------------------------------------------------------------ the lines
-
-    fn take_session(&mut self, marks: u8) {
-        // A new session is a crash between calls, which the book allows; any
-        // other session that wasn't handed back is foreign to it.
-        if marks != 0 && marks != self.session {
-            self.book = None;
-        }
-        self.session = marks;
-    }
 
     fn poke(&mut self, address: usize, byte: u8) {
         for lender in &mut self.volumes {
@@ -178,15 +189,16 @@ impl World {
         self.keep_before();
         let copy = self.lent.array(shape.len());
         copy.copy_from_slice(shape);
-        let replies = [
+        let answers = [
             self.engines[0].format(self.volumes[0].array(length), clients, shape),
             self.engines[1].format(self.volumes[1].array(length), clients, copy),
         ];
-        expect(replies[0] == replies[1], || differing(replies))?;
+        expect(answers[0] == answers[1], || format!("the layouts answer {answers:?}"))?;
         self.same_bytes()?;
-        self.session = 0;
+        self.session = RawSession::default();
+        self.handed = self.session;
         self.book = None;
-        let answer = replies[0].answer().ok_or("the reply of the layout is none")?;
+        let answer = answers[0].answer().ok_or("the answer of the layout is none")?;
         self.count_answer(answer);
         if let Answer::Refused(_) = answer {
             self.unchanged()?;
@@ -211,21 +223,27 @@ impl World {
         self.shared.count(tally::CALLS);
         self.keep_before();
         let given = self.session;
+        // A new session is a crash between calls, which the book allows; any
+        // other session that wasn't handed back is foreign to it.
+        if !given.is_new() && given != self.handed {
+            self.book = None;
+        }
         let replies = self.replies(given, call);
-        self.same_replies(given, call, replies)?;
+        expect(replies[0] == replies[1], || differing(replies))?;
         self.same_bytes()?;
         self.same_soundness()?;
-        let answer = replies[0].answer().ok_or("the reply is none")?;
+        let Reply { session, answer } = replies[0];
+        let answer = answer.answer().ok_or("the answer is none")?;
         self.count_answer(answer);
-        self.rules_kept(given, call, replies[0], answer)?;
-        if !matches!(call, Call::Read { .. }) {
-            self.session = replies[0].session();
-        }
+        self.rules_kept(given, call, session, answer)?;
+        self.session = session;
+        self.handed = session;
         self.against_book(given, call, answer)?;
+        self.readers_kept(given, call, answer)?;
         Ok(answer)
     }
 
-    fn replies(&mut self, given: u8, call: &Call) -> [Reply; 2] {
+    fn replies(&mut self, given: RawSession, call: &Call) -> [Reply; 2] {
         let first = self.engines[0].call(self.volumes[0].array(self.length), given, call);
         let mut lent = *call;
         if let Call::Write { data, .. } = &mut lent {
@@ -238,15 +256,6 @@ impl World {
     }
 
     // ------------------------------------------------------- the comparisons
-
-    fn same_replies(&self, given: u8, call: &Call, replies: [Reply; 2]) -> Check {
-        let mut compared = replies;
-        // What a read hands back for a byte that is no session is left open.
-        if given > 15 && matches!(call, Call::Read { .. }) {
-            compared = compared.map(Reply::without_session);
-        }
-        expect(compared[0] == compared[1], || differing(replies))
-    }
 
     fn same_bytes(&self) -> Check {
         let [first, second] = [0, 1].map(|index| self.volumes[index].bytes(self.length));
@@ -263,15 +272,14 @@ impl World {
 
     // ------------------------------------------- the rules of every call
 
-    fn rules_kept(&mut self, given: u8, call: &Call, reply: Reply, answer: Answer) -> Check {
+    fn rules_kept(&mut self, given: RawSession, call: &Call, after: RawSession, answer: Answer) -> Check {
         match answer {
             Answer::Refused(number) => {
                 self.unchanged()?;
                 self.empty_page(given, call)?;
                 // From a layout on, the session handed back always fits.
                 expect(self.book.is_none() || number > 2, || format!("refused {number} without damage"))?;
-                let read = matches!(call, Call::Read { .. });
-                expect(read || reply.session() == given, || "a refusal changed the session".into())
+                expect(after == given, || "a refusal changed the session".into())
             }
             Answer::Sector(sector) => {
                 self.unchanged()?;
@@ -279,13 +287,17 @@ impl World {
             }
             Answer::Done(count) => {
                 expect(Some(count) <= call.budget(), || "done above the budget".into())?;
-                expect(reply.session() == session_after(given, call), || "done with a wrong session".into())?;
-                self.stored(given, call, count)
+                self.stored(given, call, count)?;
+                let stores = expected::count(&self.before, call);
+                expect(count == stores, || format!("done with {count} stores in place of {stores}"))?;
+                let session = expected::session(&self.before, given, call);
+                expect(after == session, || "done with a wrong session".into())
             }
             Answer::Cut(count) => {
                 expect(Some(count) == call.budget(), || "cut before the budget was used".into())?;
-                expect(reply.session() == 0, || "a cut keeps a mark".into())?;
-                self.stored(given, call, count)
+                expect(after.is_new(), || "a cut keeps a mark or a hold".into())?;
+                self.stored(given, call, count)?;
+                expect(count < expected::count(&self.before, call), || "cut with all stores made".into())
             }
         }
     }
@@ -295,7 +307,7 @@ impl World {
     }
 
     /// The volume after `count` stores of a call that wasn't refused.
-    fn stored(&self, given: u8, call: &Call, count: u8) -> Check {
+    fn stored(&self, given: RawSession, call: &Call, count: u8) -> Check {
         expect(volume::is_sound(&self.before), || "a call on an unsound volume".into())?;
         expect(volume::is_sound(self.volume()), || "not sound after the call".into())?;
         let changed = sectors_that_differ(&self.before, self.volume());
@@ -308,8 +320,8 @@ impl World {
 
     /// Each shorter budget makes one store more than the one before it, and
     /// the last of them is one store short of what was made.
-    fn prefixes_kept(&self, given: u8, call: &Call, count: u8) -> Check {
-        let session = Session::from_bits(given).ok_or("a byte above 15 was taken")?;
+    fn prefixes_kept(&self, given: RawSession, call: &Call, count: u8) -> Check {
+        let session = given.session().ok_or("a byte above 15 was taken")?;
         let mut last = self.before.clone();
         for budget in 0..count {
             self.shared.count(tally::PREFIXES);
@@ -326,18 +338,18 @@ impl World {
     }
 
     /// The second call of read hands back the very part of the lent array.
-    fn page_is_sector(&self, given: u8, call: &Call, sector: u16) -> Check {
+    fn page_is_sector(&self, given: RawSession, call: &Call, sector: u16) -> Check {
         let part = self.page(given, call);
         let expected = sector_of(self.volume(), sector);
         expect(part.as_ptr_range() == expected.as_ptr_range(), || "the page isn't the sector itself".into())
     }
 
-    fn empty_page(&self, given: u8, call: &Call) -> Check {
+    fn empty_page(&self, given: RawSession, call: &Call) -> Check {
         expect(self.page(given, call).is_empty(), || "a refused read hands back a page".into())
     }
 
-    fn page(&self, given: u8, call: &Call) -> &[u8] {
-        match (*call, Session::from_bits(given)) {
+    fn page(&self, given: RawSession, call: &Call) -> &[u8] {
+        match (*call, given.session()) {
             (Call::Read { client, file, page }, Some(session)) => {
                 volume::page(self.volume(), session, client, file, page)
             }
@@ -347,8 +359,8 @@ impl World {
 
     // --------------------------------------------------------- the book
 
-    fn against_book(&mut self, given: u8, call: &Call, answer: Answer) -> Check {
-        let (Some(book), Some(session)) = (&mut self.book, Session::from_bits(given)) else {
+    fn against_book(&mut self, given: RawSession, call: &Call, answer: Answer) -> Check {
+        let (Some(book), Some(session)) = (&mut self.book, given.session()) else {
             return Ok(());
         };
         book.feed(session, call, answer);
@@ -371,7 +383,53 @@ impl World {
         }
     }
 
-    // ------------------------------------------------------------ parts of the checks
+    // -------------------------------------------------------- the readers
+
+    /// Readers keep their pages over a call that is done, and these are the
+    /// decided ones. Other answers leave bytes and holds, or no hold.
+    fn readers_kept(&mut self, given: RawSession, call: &Call, answer: Answer) -> Check {
+        let Answer::Done(count) = answer else {
+            return Ok(());
+        };
+        let session = self.session;
+        readers::steady((&self.before, given), (self.volume(), session))?;
+        for (engine, volume) in self.engines.into_iter().zip(&mut self.volumes) {
+            readers::shown(engine, volume.array(self.length), session)?;
+        }
+        self.count_readers(given, call, count);
+        self.readers_have_no_slip()
+    }
+
+    fn readers_have_no_slip(&self) -> Check {
+        let Some(book) = &self.book else {
+            return Ok(());
+        };
+        let found = self.session.holds().find(|&(client, file)| book.has_on_slip(client, file));
+        expect(found.is_none(), || format!("pages of a file on its reader's slip: {found:?}"))
+    }
+
+    fn count_readers(&self, given: RawSession, call: &Call, stores: u8) {
+        let session = self.session;
+        match *call {
+            Call::OpenRead { .. } if session != given => {
+                self.shared.count(tally::OPEN_READS);
+                if stores > 0 {
+                    self.shared.count(tally::OPEN_READS_RECOVERING);
+                }
+            }
+            Call::Open { .. } if session != given => self.shared.count(tally::UPGRADES),
+            _ => {}
+        }
+        if session.holds().next().is_some() {
+            self.shared.count(tally::READERS_SHOWN);
+        }
+        let several = |file| (1..=4).filter(|&client| session.reads(client, file)).count() > 1;
+        if (1..=MAX_FILES as u8).any(several) {
+            self.shared.count(tally::SEVERAL_READERS);
+        }
+    }
+
+    // -------------------------------------------------- parts of the checks
 
     fn keep_before(&mut self) {
         self.before.clear();
@@ -383,7 +441,7 @@ impl World {
             Answer::Done(_) => tally::DONE,
             Answer::Cut(_) => tally::CUT,
             Answer::Sector(_) => tally::SECTOR,
-            Answer::Refused(number) => tally::REFUSED + usize::from(number.min(15)),
+            Answer::Refused(number) => tally::REFUSED + usize::from(number.min(16)),
         });
     }
 }
@@ -396,19 +454,10 @@ fn expect(holds: bool, message: impl FnOnce() -> String) -> Check {
     }
 }
 
-/// The session that a call hands back when it is done.
-fn session_after(given: u8, call: &Call) -> u8 {
-    match *call {
-        Call::Begin { client, .. } => given | 1 << (client - 1),
-        Call::Commit { client, .. } | Call::Abort { client, .. } => given & !(1 << (client - 1)),
-        Call::Open { .. } | Call::Write { .. } | Call::Read { .. } => given,
-    }
-}
-
 fn differing(replies: [Reply; 2]) -> String {
-    let [first, second] = replies.map(|reply| match reply.answer() {
-        Some(answer) => format!("{answer} with session {}", reply.session()),
-        None => format!("the number {:#x}", reply.0),
+    let [first, second] = replies.map(|Reply { session, answer }| {
+        let answer = answer.answer().map_or_else(|| format!("{answer:?}"), |answer| answer.to_string());
+        format!("{answer} with {}", session.to_string().replace('\n', ", "))
     });
     format!("the model answers {first}, the other {second}")
 }

@@ -1,12 +1,11 @@
-//! The implementations that are set side by side, behind one face.
-//!
-//! An engine answers as the C library does, with one number: kind (0 done,
-//! 1 cut, 2 refused, 3 sector) + 256 × session + 65,536 × number.
+//! The implementations that are set side by side, behind one face: the
+//! sessions and answers of both are the C library's.
 
 use crate::call::{Answer, Call};
 #[cfg(feature = "capi")]
 use crate::capi;
-use crate::volume::{self, refusal, Session};
+use crate::reply::{RawAnswer, RawSession, Reply};
+use crate::volume::{self, refusal};
 
 #[derive(Clone, Copy, Debug, PartialEq, Eq)]
 pub enum Engine {
@@ -15,42 +14,6 @@ pub enum Engine {
     /// The C library.
     #[cfg(feature = "capi")]
     Library,
-}
-
-/// A reply as one number.
-#[derive(Clone, Copy, Debug, PartialEq, Eq)]
-pub struct Reply(pub u64);
-
-impl Reply {
-    pub fn new(answer: Answer, session: u8) -> Reply {
-        let (kind, number) = match answer {
-            Answer::Done(count) => (0, u64::from(count)),
-            Answer::Cut(count) => (1, u64::from(count)),
-            Answer::Refused(number) => (2, u64::from(number)),
-            Answer::Sector(sector) => (3, u64::from(sector)),
-        };
-        Reply(kind + 256 * u64::from(session) + 65_536 * number)
-    }
-
-    pub fn session(self) -> u8 {
-        (self.0 >> 8) as u8
-    }
-
-    /// None if the number is no reply.
-    pub fn answer(self) -> Option<Answer> {
-        let number = self.0 >> 16;
-        Some(match self.0 as u8 {
-            0 => Answer::Done(number.try_into().ok()?),
-            1 => Answer::Cut(number.try_into().ok()?),
-            2 => Answer::Refused(number.try_into().ok()?),
-            3 => Answer::Sector(number.try_into().ok()?),
-            _ => return None,
-        })
-    }
-
-    pub fn without_session(self) -> Reply {
-        Reply(self.0 & !0xFF00)
-    }
 }
 
 impl Engine {
@@ -62,22 +25,22 @@ impl Engine {
         return Engine::Model;
     }
 
-    pub fn format(self, volume: &mut [u8], clients: u8, shape: &[u8]) -> Reply {
+    pub fn format(self, volume: &mut [u8], clients: u8, shape: &[u8]) -> RawAnswer {
         match self {
             Engine::Model => match volume::format(volume, clients, shape) {
-                Ok(()) => Reply::new(Answer::Done(0), 0),
-                Err(number) => Reply::new(Answer::Refused(number), 0),
+                Ok(()) => Answer::Done(0).into(),
+                Err(number) => Answer::Refused(number).into(),
             },
             #[cfg(feature = "capi")]
             // SAFETY: both slices are lent for the time of the call.
-            Engine::Library => Reply(unsafe {
+            Engine::Library => unsafe {
                 capi::vol_format(volume.as_mut_ptr(), volume.len(), clients, shape.as_ptr(), shape.len())
-            }),
+            },
         }
     }
 
-    /// Makes a call with a session given as a byte.
-    pub fn call(self, volume: &mut [u8], session: u8, call: &Call) -> Reply {
+    /// Makes a call with any session.
+    pub fn call(self, volume: &mut [u8], session: RawSession, call: &Call) -> Reply {
         match self {
             Engine::Model => model_call(volume, session, call),
             #[cfg(feature = "capi")]
@@ -107,34 +70,36 @@ impl Engine {
     }
 }
 
-fn model_call(volume: &mut [u8], session: u8, call: &Call) -> Reply {
-    let (after, answer) = match Session::from_bits(session) {
-        Some(marks) => {
-            let (after, answer) = call.make(volume, marks);
-            (after.bits(), answer)
+fn model_call(volume: &mut [u8], given: RawSession, call: &Call) -> Reply {
+    let (session, answer) = match given.session() {
+        Some(session) => {
+            let (after, answer) = call.make(volume, session);
+            (after.into(), answer)
         }
-        None if volume::is_sound(volume) => (session, Answer::Refused(refusal::SESSION)),
-        None => (session, Answer::Refused(refusal::NOT_SOUND)),
+        None if volume::is_sound(volume) => (given, Answer::Refused(refusal::SESSION)),
+        None => (given, Answer::Refused(refusal::NOT_SOUND)),
     };
-    // A read hands back no session.
-    let handed_back = if matches!(call, Call::Read { .. }) { 0 } else { after };
-    Reply::new(answer, handed_back)
+    Reply { session, answer: answer.into() }
 }
 
 #[cfg(feature = "capi")]
-fn library_call(volume: &mut [u8], session: u8, call: &Call) -> Reply {
+fn library_call(volume: &mut [u8], session: RawSession, call: &Call) -> Reply {
     let (at, len) = (volume.as_mut_ptr(), volume.len());
     // SAFETY: the volume and the data are lent for the time of the call.
-    Reply(unsafe {
+    let reply = unsafe {
         match *call {
             Call::Begin { client, budget } => capi::vol_begin(at, len, session, client, budget),
             Call::Open { client, file, budget } => capi::vol_open(at, len, session, client, file, budget),
-            Call::Read { client, file, page } => capi::vol_read(at, len, session, client, file, page),
+            Call::OpenRead { client, file, budget } => capi::vol_open_read(at, len, session, client, file, budget),
+            Call::Read { client, file, page } => {
+                return Reply { session, answer: capi::vol_read(at, len, session, client, file, page) };
+            }
             Call::Write { client, file, page, data, budget } => {
                 capi::vol_write(at, len, session, client, file, page, data.as_ptr(), data.len(), budget)
             }
             Call::Commit { client, budget } => capi::vol_commit(at, len, session, client, budget),
             Call::Abort { client, budget } => capi::vol_abort(at, len, session, client, budget),
         }
-    })
+    };
+    Reply { session: reply.session, answer: RawAnswer { kind: reply.kind, number: reply.number } }
 }

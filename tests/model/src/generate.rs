@@ -10,6 +10,9 @@ use crate::random::Random;
 use crate::script::{data, Line, MAX_DATA, MAX_VOLUME};
 use crate::volume::{self, MAX_CLIENTS, MAX_FILES, MAX_PAGES, MAX_REALS, MAX_SECTORS, SECTOR_SIZE};
 
+mod readers;
+mod sessions;
+
 type Check = Result<(), String>;
 
 /// Makes one run. An error is a failed check.
@@ -17,14 +20,15 @@ pub fn run(world: &mut World, random: Random) -> Check {
     world.shared().count(tally::RUNS);
     world.reset();
     let mut run = Run { world, random, layout: Layout::default() };
-    match run.random.below(21) {
+    match run.random.below(26) {
         0 => run.layouts(),
         1..=9 => run.calls_against_book(),
         10 => run.full_record(),
         11..=14 => run.calls_with_foreign_sessions(),
         15..=18 => run.crafted(),
         19 => run.damaged(),
-        _ => run.rewrites(),
+        20 => run.rewrites(),
+        _ => run.readers(),
     }
 }
 
@@ -125,7 +129,7 @@ impl Run<'_> {
     /// One transaction that writes the pages, in any order.
     fn rewrite(&mut self, client: u8, file: u8, pages: &mut [u8]) -> Check {
         // A crash, if a step has left a transaction running.
-        if self.world.session() != 0 {
+        if !self.world.session().is_new() {
             self.world.play(&Line::Session(0))?;
         }
         self.call(Call::Begin { client, budget: 255 })?;
@@ -147,7 +151,7 @@ impl Run<'_> {
         let shape = self.any_shape();
         self.lay_out(shape)?;
         for _ in 0..self.run_length() {
-            if self.random.chance(15) {
+            if self.random.chance(25) {
                 self.foreign_session()?;
             }
             self.step()?;
@@ -356,23 +360,6 @@ impl Run<'_> {
         self.world.restore(&start);
         Ok(())
     }
-
-    /// A session that fits the records, or any, or a byte that is none.
-    fn foreign_session(&mut self) -> Check {
-        let marks = match self.random.below(10) {
-            0..=5 => self.fitting_session(),
-            6..=8 => self.random.between(0, 15),
-            _ => self.random.byte(),
-        };
-        self.world.play(&Line::Session(marks)).map(drop)
-    }
-
-    /// Marks clients whose record is open.
-    fn fitting_session(&mut self) -> u8 {
-        let volume = self.world.volume();
-        let open = (1..=self.layout.clients).filter(|&client| state(volume, client) == Some(1));
-        open.map(|client| 1 << (client - 1)).sum()
-    }
 }
 
 // ---------------------------------------------------------------- the calls
@@ -399,38 +386,64 @@ impl Run<'_> {
     }
 
     fn useful_call(&mut self) -> Call<'static> {
-        let budget = 255;
-        let marks = self.world.session();
-        let is_marked = |client: &u8| marks >> (client - 1) & 1 == 1;
+        let session = self.world.session();
         let clients = 1..=self.layout.clients.max(1);
-        let (marked, unmarked): (Vec<u8>, Vec<u8>) = clients.partition(is_marked);
+        let (marked, unmarked): (Vec<u8>, Vec<u8>) = clients.partition(|&client| session.marks(client));
 
         let begin = self.random.chance(if marked.is_empty() { 90 } else { 10 });
         if let (true, Some(client)) = (begin, self.random.pick(&unmarked)) {
-            return Call::Begin { client, budget };
+            return Call::Begin { client, budget: 255 };
         }
         let client = self.random.pick(&marked).unwrap_or(1);
-        let held = self.held_files(client);
+        self.call_of(client)
+    }
+
+    /// A call of a client that has a transaction running.
+    fn call_of(&mut self, client: u8) -> Call<'static> {
+        let budget = 255;
+        let (written, read) = (self.written_files(client), self.read_files(client));
+        let held = [&written[..], &read].concat();
         if held.is_empty() && self.random.chance(70) {
-            return Call::Open { client, file: self.any_file(), budget };
+            return self.open_either(client);
         }
-        let (file, page) = self.pick_page(&held);
         match self.random.below(100) {
-            0..=18 => Call::Open { client, file: self.any_file(), budget },
-            19 => Call::Begin { client, budget },
-            20..=64 => {
-                let data = data(self.random.byte(), SECTOR_SIZE);
+            0..=23 => self.open_either(client),
+            24..=28 => Call::Open { client, file: self.pick_page(&read).0, budget },
+            29 => Call::Begin { client, budget },
+            30..=50 if written.is_empty() => self.open_either(client),
+            30..=64 => {
+                let files = if self.random.chance(90) { &written } else { &held };
+                let ((file, page), data) = (self.pick_page(files), data(self.random.byte(), SECTOR_SIZE));
                 Call::Write { client, file, page, data, budget }
             }
-            65..=84 => Call::Read { client, file, page },
+            65..=84 => {
+                let (file, page) = self.pick_page(&held);
+                Call::Read { client, file, page }
+            }
             85..=93 => Call::Commit { client, budget },
             _ => Call::Abort { client, budget },
         }
     }
 
-    fn held_files(&self, client: u8) -> Vec<FileSpot> {
+    fn open_either(&mut self, client: u8) -> Call<'static> {
+        let (file, budget) = (self.any_file(), 255);
+        if self.random.chance(50) {
+            Call::Open { client, file, budget }
+        } else {
+            Call::OpenRead { client, file, budget }
+        }
+    }
+
+    /// The files that the client holds for writing.
+    fn written_files(&self, client: u8) -> Vec<FileSpot> {
         let volume = self.world.volume();
         self.layout.files.iter().filter(|file| holder(volume, file) == Some(client)).copied().collect()
+    }
+
+    /// The files that the client holds for reading.
+    fn read_files(&self, client: u8) -> Vec<FileSpot> {
+        let session = self.world.session();
+        self.layout.files.iter().filter(|file| session.reads(client, file.number)).copied().collect()
     }
 
     fn any_file(&mut self) -> u8 {
@@ -459,7 +472,9 @@ impl Run<'_> {
         };
         let place = match call {
             Call::Begin { client, .. } | Call::Commit { client, .. } | Call::Abort { client, .. } => client,
-            Call::Open { client, file, .. } => [client, file].into_iter().nth(self.random.below(2)).unwrap(),
+            Call::Open { client, file, .. } | Call::OpenRead { client, file, .. } => {
+                [client, file].into_iter().nth(self.random.below(2)).unwrap()
+            }
             Call::Read { client, file, page } => [client, file, page].into_iter().nth(self.random.below(3)).unwrap(),
             Call::Write { client, file, page, data: bytes, .. } => {
                 if self.random.chance(40) {

@@ -4,6 +4,7 @@
 //! - [`content`]: the decided content, read from the bytes by its own code.
 //! - [`book`]: the plain book, which sees arguments and answers only.
 //! - [`call`]: one call and one answer as values.
+//! - [`reply`]: sessions and answers as the C library has them.
 //! - [`script`]: scripts of calls, read, printed and run.
 //! - [`small`]: every sound volume of one small shape.
 //!
@@ -19,9 +20,12 @@ pub mod capi;
 pub mod check;
 pub mod content;
 pub mod engine;
+pub mod expected;
 pub mod generate;
 pub mod posix;
 pub mod random;
+pub mod readers;
+pub mod reply;
 pub mod script;
 pub mod shrink;
 pub mod small;

@@ -8,7 +8,8 @@ use std::io::{self, Write};
 
 use crate::call::{Answer, Call};
 use crate::engine::Engine;
-use crate::volume::{MAX_LISTING, SECTOR_SIZE};
+use crate::reply::RawSession;
+use crate::volume::{MAX_CLIENTS, MAX_FILES, MAX_LISTING, SECTOR_SIZE};
 
 /// The bytes that a script can lend: one sector more than a volume may have.
 pub const MAX_VOLUME: usize = 262_400;
@@ -26,8 +27,14 @@ pub enum Line {
         shape: Vec<u8>,
     },
     Call(Call<'static>),
-    /// The session as a byte of bits.
+    /// The session becomes these marks, a byte of bits, without holds.
     Session(u8),
+    /// The session gets this hold for reading.
+    Reading {
+        client: u8,
+        file: u8,
+    },
+    ShowSession,
     Poke {
         address: usize,
         byte: u8,
@@ -68,7 +75,11 @@ pub fn parse(text: &[u8]) -> Option<Line> {
             let shape = shape.iter().map(|&value| byte(value)).collect::<Option<_>>()?;
             Line::Format { length, clients: byte(clients)?, shape }
         }
+        (b"session", []) => Line::ShowSession,
         (b"session", &[marks]) if marks < 16 => Line::Session(byte(marks)?),
+        (b"reading", &[client @ 1..=MAX_CLIENTS, file @ 1..=MAX_FILES]) => {
+            Line::Reading { client: byte(client)?, file: byte(file)? }
+        }
         (b"poke", &[address, value]) => Line::Poke { address, byte: byte(value)? },
         (b"dump", &[sector]) => Line::Dump(sector),
         (b"list", []) => Line::List,
@@ -81,6 +92,9 @@ fn parse_call(word: &[u8], numbers: &[usize]) -> Option<Call<'static>> {
         (b"begin", &[client, ref rest @ ..]) => Call::Begin { client: byte(client)?, budget: budget(rest)? },
         (b"open", &[client, file, ref rest @ ..]) => {
             Call::Open { client: byte(client)?, file: byte(file)?, budget: budget(rest)? }
+        }
+        (b"open_read", &[client, file, ref rest @ ..]) => {
+            Call::OpenRead { client: byte(client)?, file: byte(file)?, budget: budget(rest)? }
         }
         (b"read", &[client, file, page]) => Call::Read { client: byte(client)?, file: byte(file)?, page: byte(page)? },
         (b"write", &[client, file, page, seed, length, ref rest @ ..]) if length <= MAX_DATA => Call::Write {
@@ -133,6 +147,8 @@ impl fmt::Display for Line {
             Line::Session(marks @ ..16) => write!(f, "session {marks}"),
             // No script can give such a byte, so it stands there as a remark.
             Line::Session(marks) => write!(f, "# session {marks}"),
+            Line::Reading { client, file } => write!(f, "reading {client} {file}"),
+            Line::ShowSession => f.write_str("session"),
             Line::Poke { address, byte } => write!(f, "poke {address} {byte}"),
             Line::Dump(sector) => write!(f, "dump {sector}"),
             Line::List => f.write_str("list"),
@@ -146,6 +162,7 @@ impl fmt::Display for Call<'_> {
         match *self {
             Call::Begin { client, .. } => write!(f, "begin {client}")?,
             Call::Open { client, file, .. } => write!(f, "open {client} {file}")?,
+            Call::OpenRead { client, file, .. } => write!(f, "open_read {client} {file}")?,
             Call::Read { client, file, page } => write!(f, "read {client} {file} {page}")?,
             Call::Write { client, file, page, data, .. } => {
                 let seed = data.first().unwrap_or(&0);
@@ -201,12 +218,12 @@ struct Player {
     buffer: Vec<u8>,
     /// The volume is the first so many bytes of the buffer.
     length: usize,
-    session: u8,
+    session: RawSession,
 }
 
 impl Player {
     fn new(engine: Engine) -> Player {
-        Player { engine, buffer: vec![0; MAX_VOLUME], length: 0, session: 0 }
+        Player { engine, buffer: vec![0; MAX_VOLUME], length: 0, session: RawSession::default() }
     }
 
     fn volume(&mut self) -> &mut [u8] {
@@ -219,7 +236,7 @@ impl Player {
         match line {
             Line::Format { length, clients, shape } => {
                 self.length = *length;
-                self.session = 0;
+                self.session = RawSession::default();
                 match engine.format(self.volume(), *clients, shape).answer() {
                     Some(Answer::Refused(number)) => writeln!(out, "refused {number}")?,
                     Some(Answer::Done(0)) => writeln!(out, "done")?,
@@ -227,8 +244,10 @@ impl Player {
                 }
             }
             Line::Call(call) => self.call(call, out)?,
-            Line::Session(marks @ ..16) => self.session = *marks,
+            Line::Session(marks @ ..16) => self.session = RawSession::of_marks(*marks),
             Line::Session(_) => return Ok(false),
+            Line::Reading { client, file } => self.session.add_hold(*client, *file),
+            Line::ShowSession => writeln!(out, "{}", self.session)?,
             Line::Poke { address, byte } => match self.volume().get_mut(*address) {
                 Some(place) => *place = *byte,
                 None => return Ok(false),
@@ -245,14 +264,11 @@ impl Player {
     fn call(&mut self, call: &Call, out: &mut impl Write) -> io::Result<()> {
         let (engine, session) = (self.engine, self.session);
         let reply = engine.call(self.volume(), session, call);
-        let answer = reply.answer().ok_or_else(no_reply)?;
+        let answer = reply.answer.answer().ok_or_else(no_reply)?;
+        self.session = reply.session;
         if let Answer::Sector(sector) = answer {
             let part = self.volume().chunks_exact(SECTOR_SIZE).nth(sector.into()).ok_or_else(no_reply)?;
             return writeln!(out, "{answer} {}", hex(part));
-        }
-        // A read hands back no session.
-        if !matches!(call, Call::Read { .. }) {
-            self.session = reply.session();
         }
         writeln!(out, "{answer}")
     }

@@ -133,13 +133,15 @@ fn without_file(lines: &[Line], layout: &Layout, file: u8) -> Vec<Line> {
         Line::Call(call) => {
             let mut call = *call;
             match &mut call {
-                Call::Open { file: named, .. } | Call::Read { file: named, .. } | Call::Write { file: named, .. } => {
-                    *named = renumber(*named, file)?;
-                }
+                Call::Open { file: named, .. }
+                | Call::OpenRead { file: named, .. }
+                | Call::Read { file: named, .. }
+                | Call::Write { file: named, .. } => *named = renumber(*named, file)?,
                 _ => {}
             }
             Some(Line::Call(call))
         }
+        Line::Reading { client, file: named } => Some(Line::Reading { client: *client, file: renumber(*named, file)? }),
         other => Some(other.clone()),
     };
     lines.iter().filter_map(change).collect()
@@ -160,10 +162,12 @@ fn without_client(lines: &[Line], layout: &Layout, client: u8) -> Vec<Line> {
             let low = marks & ((1 << (client - 1)) - 1);
             Some(Line::Session(low | (marks >> client) << (client - 1)))
         }
+        Line::Reading { client: named, file } => Some(Line::Reading { client: renumber(*named, client)?, file: *file }),
         Line::Call(call) => {
             let mut call = *call;
             let (Call::Begin { client: named, .. }
             | Call::Open { client: named, .. }
+            | Call::OpenRead { client: named, .. }
             | Call::Read { client: named, .. }
             | Call::Write { client: named, .. }
             | Call::Commit { client: named, .. }
@@ -231,8 +235,19 @@ fn plainer_lines(line: &Line) -> Vec<Line> {
     match line {
         Line::Format { length, clients, shape } => plainer_layouts(*length, *clients, shape),
         Line::Call(call) => plainer_calls(call).into_iter().map(Line::Call).collect(),
+        Line::Session(marks) => {
+            let bits = (0..8).map(|bit| 1 << bit).filter(|bit| marks & bit != 0);
+            bits.map(|bit| Line::Session(marks & !bit)).collect()
+        }
+        Line::Reading { client, file } => plainer_holds(*client, *file),
         _ => Vec::new(),
     }
+}
+
+/// Lower numbers.
+fn plainer_holds(client: u8, file: u8) -> Vec<Line> {
+    let clients = (1..client).map(|client| Line::Reading { client, file });
+    clients.chain((1..file).map(|file| Line::Reading { client, file })).collect()
 }
 
 fn plainer_calls(call: &Call<'static>) -> Vec<Call<'static>> {
@@ -302,6 +317,20 @@ mod tests {
         let one_entry = "format 2816 2 2 3 1 3\npoke 514 1\npoke 515 1\npoke 520 2\npoke 522 1\npoke 1794 2\nsession 2\nwrite 2 2 0 0 256";
         assert_eq!(without_entry(&script, 2, 0).unwrap(), lines(one_entry));
         assert_eq!(without_entry(&script, 2, 2), None);
+    }
+
+    #[test]
+    fn holds_go_with_their_files_and_clients() {
+        let script = lines(
+            "format 2816 2 2 3 1 3\nsession 3\nreading 1 1\nreading 1 2\nreading 2 1\nreading 2 2\nreading 4 16\nopen_read 2 2",
+        );
+        let layout = Layout::of(&script).unwrap();
+        let without_1 = "format 1792 2 1 3\nsession 3\nreading 1 1\nreading 2 1\nreading 4 15\nopen_read 2 1";
+        assert_eq!(without_file(&script, &layout, 1), lines(without_1));
+        let alone = "format 2560 1 2 3 1 3\nsession 1\nreading 1 1\nreading 1 2\nreading 3 16\nopen_read 1 2";
+        assert_eq!(without_client(&script, &layout, 1), lines(alone));
+        let short = shrink(script, |lines| lines.iter().any(|line| matches!(line, Line::Reading { client: 2.., .. })));
+        assert_eq!(short, lines("reading 2 1"));
     }
 
     #[test]

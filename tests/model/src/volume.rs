@@ -3,7 +3,8 @@
 //! Every call works on the lent byte array itself: there is no heap, no copy
 //! of the volume and one working sector of 256 bytes. A call first tests its
 //! arguments in the order of the refusal numbers, then makes its stores one
-//! by one through [`Stores`], which counts them against the budget.
+//! by one through [`Stores`], which counts them against the budget. Holds for
+//! reading are in the session alone: no store makes or ends one.
 
 use core::fmt::{self, Write as _};
 
@@ -35,7 +36,8 @@ pub(crate) const HOLDER: usize = 2;
 /// Table entries, record entries and map bytes all begin here.
 pub(crate) const BODY: usize = 8;
 
-/// The refusals by number.
+/// The refusals by number. The lowest that applies is given, but 16 is tested
+/// after 8 and before 9.
 pub mod refusal {
     pub const NOT_SOUND: u8 = 1;
     pub const SESSION: u8 = 2;
@@ -52,43 +54,83 @@ pub mod refusal {
     pub const VOLUME_LENGTH: u8 = 13;
     pub const SHAPE: u8 = 14;
     pub const TOO_SMALL: u8 = 15;
+    pub const READ_ONLY: u8 = 16;
 }
 
-/// Four marks: client 1 to 4 has a transaction running.
+/// Which clients (1 to 4) have a transaction running, and which files each of
+/// them holds for reading.
 #[derive(Clone, Copy, Debug, Default, PartialEq, Eq)]
-pub struct Session(pub [bool; MAX_CLIENTS]);
+pub struct Session {
+    /// The mark of client 1 comes first.
+    pub marks: [bool; MAX_CLIENTS],
+    /// Bit f - 1 of the k-th number: client k holds file f for reading.
+    pub reading: [u16; MAX_CLIENTS],
+}
 
 impl Session {
-    /// A new session has no client open.
+    /// A new session has no client open and no hold.
     pub const fn new() -> Session {
-        Session([false; MAX_CLIENTS])
+        Session { marks: [false; MAX_CLIENTS], reading: [0; MAX_CLIENTS] }
     }
 
-    /// Bit k - 1 is the mark of client k; a byte above 15 is no session.
+    /// The session without holds whose marks are these bits, k - 1 for client
+    /// k; a byte above 15 is none.
     pub fn from_bits(bits: u8) -> Option<Session> {
-        (bits < 16).then(|| Session([0, 1, 2, 3].map(|bit| bits >> bit & 1 == 1)))
+        (bits < 16).then(|| Session { marks: [0, 1, 2, 3].map(|bit| bits >> bit & 1 == 1), ..Session::new() })
     }
 
+    /// The marks as bits.
     pub fn bits(self) -> u8 {
-        (0..).zip(self.0).map(|(bit, mark)| u8::from(mark) << bit).sum()
+        (0..).zip(self.marks).map(|(bit, mark)| u8::from(mark) << bit).sum()
     }
 
-    /// Whether the session has no mark at all.
-    pub fn is_new(self) -> bool {
-        self == Session::new()
+    /// Whether no client is marked, whatever holds there are.
+    pub fn has_no_mark(self) -> bool {
+        self.marks == [false; MAX_CLIENTS]
     }
 
-    fn marks(self, client: u8) -> bool {
-        self.0[usize::from(client) - 1]
+    fn is_marked(self, client: u8) -> bool {
+        self.marks[usize::from(client) - 1]
     }
 
-    fn with(mut self, client: u8, mark: bool) -> Session {
-        self.0[usize::from(client) - 1] = mark;
+    /// Whether the client holds the file for reading.
+    pub fn reads(self, client: u8, file: u8) -> bool {
+        self.reading[usize::from(client) - 1] & file_bit(file) != 0
+    }
+
+    fn is_read_by_another(self, client: u8, file: u8) -> bool {
+        (1..=MAX_CLIENTS as u8).any(|other| other != client && self.reads(other, file))
+    }
+
+    fn with_mark(mut self, client: u8) -> Session {
+        self.marks[usize::from(client) - 1] = true;
+        self
+    }
+
+    /// Without the client's mark and holds.
+    fn without(mut self, client: u8) -> Session {
+        self.marks[usize::from(client) - 1] = false;
+        self.reading[usize::from(client) - 1] = 0;
+        self
+    }
+
+    fn with_hold(mut self, client: u8, file: u8) -> Session {
+        self.reading[usize::from(client) - 1] |= file_bit(file);
+        self
+    }
+
+    fn without_hold(mut self, client: u8, file: u8) -> Session {
+        self.reading[usize::from(client) - 1] &= !file_bit(file);
         self
     }
 }
 
-/// What begin, open, write, commit and abort answer.
+/// The bit of a file, 1 to 16, among those that a client reads.
+const fn file_bit(file: u8) -> u16 {
+    1 << (file - 1)
+}
+
+/// What every call with a budget answers.
 #[derive(Clone, Copy, Debug, PartialEq, Eq)]
 pub enum Outcome {
     /// All stores were made; their number.
@@ -147,7 +189,7 @@ pub fn begin(volume: &mut [u8], session: Session, client: u8, budget: u8) -> (Se
     if let Err(number) = may_begin(volume, session, client) {
         return (session, Outcome::Refused(number));
     }
-    make(volume, budget, session.with(client, true), |stores| {
+    make(volume, budget, session.with_mark(client), |stores| {
         if Record(&stores.sectors[usize::from(client)]).state() != IDLE {
             stores.recover(client)?;
         }
@@ -155,13 +197,14 @@ pub fn begin(volume: &mut [u8], session: Session, client: u8, budget: u8) -> (Se
     })
 }
 
-/// Makes `client` the holder of `file`.
+/// Gives `file` to `client` for writing, after recovering an interrupted
+/// holder. The client's hold for reading ends.
 pub fn open(volume: &mut [u8], session: Session, client: u8, file: u8, budget: u8) -> (Session, Outcome) {
     let header = match may_open(volume, session, client, file) {
         Ok(header) => header,
         Err(number) => return (session, Outcome::Refused(number)),
     };
-    make(volume, budget, session, |stores| {
+    make(volume, budget, session.without_hold(client, file), |stores| {
         let holder = stores.sectors[header][HOLDER];
         if holder == client {
             return Ok(());
@@ -174,6 +217,24 @@ pub fn open(volume: &mut [u8], session: Session, client: u8, file: u8, budget: u
         stores.work = stores.sectors[header];
         stores.work[HOLDER] = client;
         stores.store_work(header)
+    })
+}
+
+/// Gives `file` to `client` for reading, after recovering an interrupted
+/// holder. The hold itself takes no store.
+pub fn open_read(volume: &mut [u8], session: Session, client: u8, file: u8, budget: u8) -> (Session, Outcome) {
+    let header = match may_open_read(volume, session, client, file) {
+        Ok(header) => header,
+        Err(number) => return (session, Outcome::Refused(number)),
+    };
+    let holder = sectors(volume)[header][HOLDER];
+    if holder == client {
+        return (session, Outcome::Done(0));
+    }
+    make(volume, budget, session.with_hold(client, file), |stores| match holder {
+        0 => Ok(()),
+        // Interrupted, as in `open`.
+        _ => stores.recover(holder),
     })
 }
 
@@ -206,7 +267,7 @@ pub fn commit(volume: &mut [u8], session: Session, client: u8, budget: u8) -> (S
     if let Err(number) = admit(volume, session, client) {
         return (session, Outcome::Refused(number));
     }
-    make(volume, budget, session.with(client, false), |stores| {
+    make(volume, budget, session.without(client), |stores| {
         let record = usize::from(client);
         stores.work = stores.sectors[record];
         stores.work[STATE] = DECIDED;
@@ -220,12 +281,12 @@ pub fn abort(volume: &mut [u8], session: Session, client: u8, budget: u8) -> (Se
     if let Err(number) = admit(volume, session, client) {
         return (session, Outcome::Refused(number));
     }
-    make(volume, budget, session.with(client, false), |stores| stores.recover(client))
+    make(volume, budget, session.without(client), |stores| stores.recover(client))
 }
 
 /// The number of the sector in which `client` finds the page.
 pub fn read(volume: &[u8], session: Session, client: u8, file: u8, page: u8) -> Read {
-    match locate(volume, session, client, file, page) {
+    match held(volume, session, client, file).and_then(|held| held.find(page)) {
         // At most 1,024 sectors, so the number fits.
         Ok(found) => Read::Sector(found.sector() as u16),
         Err(number) => Read::Refused(number),
@@ -234,8 +295,8 @@ pub fn read(volume: &[u8], session: Session, client: u8, file: u8, page: u8) -> 
 
 /// The page itself, as a part of the lent array; empty on a refusal.
 pub fn page(volume: &[u8], session: Session, client: u8, file: u8, page: u8) -> &[u8] {
-    match locate(volume, session, client, file, page) {
-        Ok(found) => &found.sectors[found.sector()],
+    match held(volume, session, client, file).and_then(|held| held.find(page)) {
+        Ok(found) => &found.held.sectors[found.sector()],
         Err(_) => &[],
     }
 }
@@ -368,23 +429,39 @@ fn known_client(volume: &[u8], session: Session, client: u8) -> Result<&[Sector]
     Ok(sectors)
 }
 
-/// Whether each marked client exists, has an open record and holds every file
-/// that its record has an entry for.
 fn session_fits(sectors: &[Sector], session: Session) -> bool {
+    (1..=MAX_CLIENTS as u8).filter(|&client| session.is_marked(client)).all(|client| mark_fits(sectors, client))
+        && holds_fit(sectors, session)
+}
+
+/// Whether a marked client exists, has an open record and is the holder of
+/// every file that its record has an entry for.
+fn mark_fits(sectors: &[Sector], client: u8) -> bool {
     let table = Table(&sectors[0]);
-    (1..=MAX_CLIENTS as u8).filter(|&client| session.marks(client)).all(|client| {
-        if client > table.clients() {
-            return false;
-        }
-        let record = Record(&sectors[usize::from(client)]);
-        let holds = |&[file, ..]: &Entry| sectors[table.file(file).header][HOLDER] == client;
-        record.state() == OPEN && record.entries().iter().all(holds)
-    })
+    if client > table.clients() {
+        return false;
+    }
+    let record = Record(&sectors[usize::from(client)]);
+    let holds = |&[file, ..]: &Entry| sectors[table.file(file).header][HOLDER] == client;
+    record.state() == OPEN && record.entries().iter().all(holds)
+}
+
+/// Whether only marked clients read, and only files that exist and whose
+/// headers name no holder.
+fn holds_fit(sectors: &[Sector], session: Session) -> bool {
+    let read = session.reading.iter().fold(0, |all, files| all | files);
+    if read == 0 {
+        return true;
+    }
+    let table = Table(&sectors[0]);
+    let is_free = |file: u8| table.find(file).is_some_and(|file| sectors[file.header][HOLDER] == 0);
+    session.marks.iter().zip(session.reading).all(|(&marked, files)| marked || files == 0)
+        && (1..=MAX_FILES as u8).filter(|&file| read & file_bit(file) != 0).all(is_free)
 }
 
 fn may_begin(volume: &[u8], session: Session, client: u8) -> Result<(), u8> {
     known_client(volume, session, client)?;
-    if session.marks(client) {
+    if session.is_marked(client) {
         return Err(refusal::ALREADY_BEGUN);
     }
     Ok(())
@@ -393,72 +470,100 @@ fn may_begin(volume: &[u8], session: Session, client: u8) -> Result<(), u8> {
 /// Refusals 1 to 5 for the calls other than begin.
 fn admit(volume: &[u8], session: Session, client: u8) -> Result<&[Sector], u8> {
     let sectors = known_client(volume, session, client)?;
-    if !session.marks(client) {
+    if !session.is_marked(client) {
         return Err(refusal::NOT_BEGUN);
     }
     Ok(sectors)
 }
 
-/// Answers the header's sector if the file may be opened.
-fn may_open(volume: &[u8], session: Session, client: u8, file: u8) -> Result<usize, u8> {
+/// Answers the header's sector if the file may be opened for reading.
+fn may_open_read(volume: &[u8], session: Session, client: u8, file: u8) -> Result<usize, u8> {
     let sectors = admit(volume, session, client)?;
     let header = Table(&sectors[0]).find(file).ok_or(refusal::FILE)?.header;
     let holder = sectors[header][HOLDER];
-    if holder != 0 && holder != client && session.marks(holder) {
+    if holder != 0 && holder != client && session.is_marked(holder) {
         return Err(refusal::HELD_BY_ANOTHER);
     }
     Ok(header)
 }
 
-/// A page that a client may read, and where it is.
-struct Found<'a> {
+/// Answers the header's sector if the file may be opened for writing.
+fn may_open(volume: &[u8], session: Session, client: u8, file: u8) -> Result<usize, u8> {
+    let header = may_open_read(volume, session, client, file)?;
+    if session.is_read_by_another(client, file) {
+        return Err(refusal::HELD_BY_ANOTHER);
+    }
+    Ok(header)
+}
+
+/// A file that a client holds, for writing or for reading.
+struct Held<'a> {
     sectors: &'a [Sector],
     number: u8,
     file: File,
     record: Record<'a>,
+    for_writing: bool,
+}
+
+/// Refusals 1 to 8 of read and write.
+fn held(volume: &[u8], session: Session, client: u8, number: u8) -> Result<Held<'_>, u8> {
+    let sectors = admit(volume, session, client)?;
+    let file = Table(&sectors[0]).find(number).ok_or(refusal::FILE)?;
+    let for_writing = sectors[file.header][HOLDER] == client;
+    if !for_writing && !session.reads(client, number) {
+        return Err(refusal::NOT_HELD);
+    }
+    let record = Record(&sectors[usize::from(client)]);
+    Ok(Held { sectors, number, file, record, for_writing })
+}
+
+impl<'a> Held<'a> {
+    /// Refusal 9.
+    fn find(self, page: u8) -> Result<Found<'a>, u8> {
+        if page >= self.file.pages {
+            return Err(refusal::PAGE);
+        }
+        let given = self.record.real_of(self.number, page);
+        Ok(Found { held: self, page, given })
+    }
+}
+
+/// A page that a client may read, and where it is.
+struct Found<'a> {
+    held: Held<'a>,
     page: u8,
     /// The real that the client's record gives for the page.
     given: Option<u8>,
 }
 
-impl Found<'_> {
+impl<'a> Found<'a> {
+    fn header(&self) -> &'a Sector {
+        &self.held.sectors[self.held.file.header]
+    }
+
     /// The real that the map gives for the page.
     fn mapped(&self) -> u8 {
-        self.sectors[self.file.header][BODY + usize::from(self.page)]
+        self.header()[BODY + usize::from(self.page)]
     }
 
     /// The sector that shows the page to the client.
     fn sector(&self) -> usize {
-        self.file.sector_of(self.given.unwrap_or_else(|| self.mapped()))
+        self.held.file.sector_of(self.given.unwrap_or_else(|| self.mapped()))
     }
 
     /// The first real above the one mapped for the page, and from 0 again
     /// after the last, that is neither mapped nor given for the file.
     fn free_real(&self) -> Option<u8> {
-        let map = &self.sectors[self.file.header][BODY..][..usize::from(self.file.pages)];
+        let Held { number, file, record, .. } = self.held;
+        let map = &self.header()[BODY..][..usize::from(file.pages)];
         let mut used = RealSet::default();
-        for real in map.iter().copied().chain(self.record.reals_of(self.number)) {
+        for real in map.iter().copied().chain(record.reals_of(number)) {
             used.insert(real);
         }
-        let from = |start| used.lowest_absent(start).filter(|&real| real < self.file.reals);
+        let from = |start| used.lowest_absent(start).filter(|&real| real < file.reals);
         // The real mapped is below 240, so the sum fits.
         from(self.mapped() + 1).or_else(|| from(0))
     }
-}
-
-/// Refusals 1 to 9 of read and write.
-fn locate(volume: &[u8], session: Session, client: u8, number: u8, page: u8) -> Result<Found<'_>, u8> {
-    let sectors = admit(volume, session, client)?;
-    let file = Table(&sectors[0]).find(number).ok_or(refusal::FILE)?;
-    if sectors[file.header][HOLDER] != client {
-        return Err(refusal::NOT_HELD);
-    }
-    if page >= file.pages {
-        return Err(refusal::PAGE);
-    }
-    let record = Record(&sectors[usize::from(client)]);
-    let given = record.real_of(number, page);
-    Ok(Found { sectors, number, file, record, page, given })
 }
 
 /// What a write is going to store.
@@ -477,16 +582,20 @@ fn may_write<'a>(
     page: u8,
     data: &'a [u8],
 ) -> Result<WritePlan<'a>, u8> {
-    let found = locate(volume, session, client, file, page)?;
+    let held = held(volume, session, client, file)?;
+    if !held.for_writing {
+        return Err(refusal::READ_ONLY);
+    }
+    let found = held.find(page)?;
     let data: &Sector = data.try_into().map_err(|_| refusal::DATA_LENGTH)?;
     if found.given.is_some() {
         return Ok(WritePlan { sector: found.sector(), data, new_real: None });
     }
     let real = found.free_real().ok_or(refusal::NO_FREE_REAL)?;
-    if found.record.entries().len() == MAX_ENTRIES {
+    if found.held.record.entries().len() == MAX_ENTRIES {
         return Err(refusal::RECORD_FULL);
     }
-    Ok(WritePlan { sector: found.file.sector_of(real), data, new_real: Some(real) })
+    Ok(WritePlan { sector: found.held.file.sector_of(real), data, new_real: Some(real) })
 }
 
 // --------------------------------------------------------------- the stores

@@ -22,12 +22,42 @@
  *  18 the search doesn't go round
  *  19 the search begins above page 0's real
  *  20 the search begins above the next page's real
- *  21 a call never ends when the record is full
+ *  21 commit keeps the client's reading holds
+ *  22 abort keeps the client's reading holds
+ *  23 a cut keeps the reading holds
+ *  24 open is done beside a reader
+ *  25 open_read is done beside an active writer
+ *  26 open_read leaves out the recovery
+ *  27 refusal 16 is tested after 9
+ *  28 open keeps the client's own reading hold
+ *  29 refusal 2 misses a reading hold of a file that is held
+ *  30 refusal 2 misses a reading hold of a client that isn't marked
+ *  31 refusal 2 misses a reading hold of a file above the last
+ *  32 open_read notes a hold beside the client's own writing hold
+ *  33 open_read stores the header
+ *  34 commit ends all clients' reading holds
+ *  35 write is refused by 8 in place of 16
+ *  36 a refusal drops the reading holds
+ *  37 open is refused by 7 because of the client's own reading hold
+ *  38 open_read recovers only the opened file and idles the record
+ *  39 open_read is refused by 7 beside another reader
+ *  40 a reader may write
+ *  41 read is refused by 8 for a reader
+ *  42 a second open_read ends the hold
+ *  43 open ends all reading holds of the client
+ *  44 a reader may open the file beside another reader
+ *  45 a session with a bit that is no mark is taken
+ *  46 refusal 2 misses the reading holds of client 4
+ *  47 open is done beside a reader of file 16
+ *  48 begin ends all reading holds
+ *  49 open_read notes no hold after a recovery
+ *  50 open_read without a store is cut at budget 0
+ *  51 a call never ends when the record is full
  */
-#include <stddef.h>
-#include <stdint.h>
 #include <stdlib.h>
 #include <string.h>
+
+#include "../../../include/volume.h"
 
 static int misstep(void)
 {
@@ -40,12 +70,18 @@ static int misstep(void)
 
 #define MISSTEP misstep()
 
-enum { DONE, CUT, REFUSED, SECTOR };
-
-static uint64_t reply(unsigned kind, unsigned session, unsigned number)
+static vol_reply refused(vol_session session, unsigned number)
 {
-	return kind + 256ull * session + 65536ull * number;
+	if (MISSTEP == 36)
+		memset(session.reading, 0, sizeof session.reading);
+	return (vol_reply){session, VOL_REFUSED, number};
 }
+
+static vol_answer answer(unsigned kind, unsigned number) { return (vol_answer){kind, number}; }
+
+static int marked(vol_session session, int client) { return session.active >> (client - 1) & 1; }
+
+static int reads(vol_session session, int client, int file) { return session.reading[client - 1] >> (file - 1) & 1; }
 
 static unsigned word(const uint8_t *at) { return at[0] + 256u * at[1]; }
 
@@ -59,6 +95,7 @@ static int zero(const uint8_t *at, int from, int to)
 
 static const uint8_t *entry_of(const uint8_t *volume, int file) { return volume + 4 + 4 * file; }
 static unsigned header_of(const uint8_t *volume, int file) { return word(entry_of(volume, file)); }
+static int holder_of(const uint8_t *volume, int file) { return volume[256 * (size_t)header_of(volume, file) + 2]; }
 
 uint64_t vol_is_sound(const uint8_t *volume, size_t len)
 {
@@ -128,29 +165,59 @@ uint64_t vol_is_sound(const uint8_t *volume, size_t len)
 	return 1;
 }
 
-/* Refusals 1 to 5; 0 if none applies. */
-static unsigned early(const uint8_t *volume, size_t len, uint8_t session, uint8_t client, int begin)
+static int marks_fit(const uint8_t *volume, vol_session session)
 {
-	if (!vol_is_sound(volume, len))
-		return 1;
-	if (session > 15)
-		return 2;
 	for (int k = 1; k <= 4; k++) {
-		if (!(session >> (k - 1) & 1))
+		if (!marked(session, k))
 			continue;
 		const uint8_t *r = volume + 256 * k;
 		if (k > volume[4] || r[2] != 1)
-			return 2;
+			return 0;
 		for (int i = 0; i < r[3] && MISSTEP != 12; i++)
-			if (volume[256 * (size_t)header_of(volume, r[8 + 4 * i]) + 2] != k)
-				return 2;
+			if (holder_of(volume, r[8 + 4 * i]) != k)
+				return 0;
 	}
+	return session.active < 16 || MISSTEP == 45;
+}
+
+static int hold_fits(const uint8_t *volume, vol_session session, int client, int file)
+{
+	if (!marked(session, client) && MISSTEP != 30)
+		return 0;
+	if (file > volume[5])
+		return MISSTEP == 31;
+	return holder_of(volume, file) == 0 || MISSTEP == 29;
+}
+
+static int holds_fit(const uint8_t *volume, vol_session session)
+{
+	int clients = MISSTEP == 46 ? 3 : 4;
+	for (int k = 1; k <= clients; k++)
+		for (int f = 1; f <= 16; f++)
+			if (reads(session, k, f) && !hold_fits(volume, session, k, f))
+				return 0;
+	return 1;
+}
+
+/* Refusals 1 to 5; 0 if none applies. */
+static unsigned early(const uint8_t *volume, size_t len, vol_session session, uint8_t client, int begin)
+{
+	if (!vol_is_sound(volume, len))
+		return 1;
+	if (!marks_fit(volume, session) || !holds_fit(volume, session))
+		return 2;
 	if (client < 1 || client > volume[4])
 		return 3;
-	int marked = session >> (client - 1) & 1;
 	if (begin)
-		return marked ? 4 : 0;
-	return marked ? 0 : 5;
+		return marked(session, client) ? 4 : 0;
+	return marked(session, client) ? 0 : 5;
+}
+
+/* Refusals 1 to 6. */
+static unsigned early_with_file(const uint8_t *volume, size_t len, vol_session session, uint8_t client, uint8_t file)
+{
+	unsigned no = early(volume, len, session, client, 0);
+	return no ? no : file < 1 || file > volume[5] ? 6 : 0;
 }
 
 struct supply {
@@ -205,7 +272,7 @@ static void recover(struct supply *s, int client, int only, int first)
 	if (MISSTEP == 1)
 		store_record(s, client, 0);
 	for (int f = 1; f <= v[5]; f++) {
-		int named = v[256 * (size_t)header_of(v, f) + 2] == client;
+		int named = holder_of(v, f) == client;
 		if (MISSTEP == 3 && state == 2)
 			named |= has_entry(v + 256 * client, f);
 		if (!named || (only && f != only))
@@ -218,27 +285,32 @@ static void recover(struct supply *s, int client, int only, int first)
 		store_record(s, client, 0);
 }
 
-static uint64_t finish(struct supply *s, uint8_t given, uint8_t after)
+static vol_reply finish(struct supply *s, vol_session given, vol_session after)
 {
-	if (s->cut)
-		return reply(CUT, MISSTEP == 10 ? given : 0, s->made);
-	return reply(DONE, after, s->made);
+	vol_session new = {0};
+	if (!s->cut)
+		return (vol_reply){after, VOL_DONE, s->made};
+	if (MISSTEP == 10)
+		new = given;
+	if (MISSTEP == 23)
+		memcpy(new.reading, given.reading, sizeof new.reading);
+	return (vol_reply){new, VOL_CUT, s->made};
 }
 
-uint64_t vol_format(uint8_t *volume, size_t len, uint8_t clients, const uint8_t *shape, size_t shape_len)
+vol_answer vol_format(uint8_t *volume, size_t len, uint8_t clients, const uint8_t *shape, size_t shape_len)
 {
 	if (len % 256 || len / 256 > 1024)
-		return reply(REFUSED, 0, 13);
+		return answer(VOL_REFUSED, 13);
 	if (clients < 1 || clients > 4 || shape_len % 2 || shape_len < 2 || shape_len > 32)
-		return reply(REFUSED, 0, 14);
+		return answer(VOL_REFUSED, 14);
 	size_t needed = 1 + clients;
 	for (size_t i = 0; i < shape_len; i += 2) {
 		if (shape[i] < 1 || shape[i] > 120 || shape[i + 1] < shape[i] || shape[i + 1] > 240)
-			return reply(REFUSED, 0, 14);
+			return answer(VOL_REFUSED, 14);
 		needed += 1 + shape[i + 1];
 	}
 	if (needed > len / 256)
-		return reply(REFUSED, 0, 15);
+		return answer(VOL_REFUSED, 15);
 	memset(volume, 0, len);
 	uint8_t front[6] = {0x4B, 0x56, len / 256 % 256, len / 65536, clients, shape_len / 2};
 	memcpy(volume, front, 6);
@@ -254,56 +326,101 @@ uint64_t vol_format(uint8_t *volume, size_t len, uint8_t clients, const uint8_t 
 			h[8 + p] = p;
 		place += 1 + shape[i + 1];
 	}
-	return reply(DONE, 0, 0);
+	return answer(VOL_DONE, 0);
 }
 
-uint64_t vol_begin(uint8_t *volume, size_t len, uint8_t session, uint8_t client, uint8_t budget)
+vol_reply vol_begin(uint8_t *volume, size_t len, vol_session session, uint8_t client, uint8_t budget)
 {
 	unsigned no = early(volume, len, session, client, 1);
 	if (no)
-		return reply(REFUSED, session, no);
+		return refused(session, no);
 	struct supply s = {volume, budget, 0, 0};
 	if (volume[256 * client + 2])
 		recover(&s, client, 0, 0);
 	store_record(&s, client, 1);
-	return finish(&s, session, session | 1 << (client - 1));
+	vol_session after = session;
+	after.active |= 1 << (client - 1);
+	if (MISSTEP == 48)
+		memset(after.reading, 0, sizeof after.reading);
+	return finish(&s, session, after);
 }
 
-uint64_t vol_commit(uint8_t *volume, size_t len, uint8_t session, uint8_t client, uint8_t budget)
+static vol_session without(vol_session session, int client, int keeps_holds)
+{
+	session.active &= ~(1 << (client - 1));
+	if (!keeps_holds)
+		session.reading[client - 1] = 0;
+	return session;
+}
+
+vol_reply vol_commit(uint8_t *volume, size_t len, vol_session session, uint8_t client, uint8_t budget)
 {
 	unsigned no = early(volume, len, session, client, 0);
 	if (no)
-		return reply(REFUSED, session, no);
+		return refused(session, no);
 	struct supply s = {volume, budget, 0, 0};
 	uint8_t work[256];
 	memcpy(work, volume + 256 * client, 256);
 	work[2] = 2;
 	store(&s, client, work);
 	recover(&s, client, 0, MISSTEP == 5);
-	return finish(&s, session, session & ~(1 << (client - 1)));
+	vol_session after = without(session, client, MISSTEP == 21);
+	if (MISSTEP == 34)
+		memset(after.reading, 0, sizeof after.reading);
+	return finish(&s, session, after);
 }
 
-uint64_t vol_abort(uint8_t *volume, size_t len, uint8_t session, uint8_t client, uint8_t budget)
+vol_reply vol_abort(uint8_t *volume, size_t len, vol_session session, uint8_t client, uint8_t budget)
 {
 	unsigned no = early(volume, len, session, client, 0);
 	if (no)
-		return reply(REFUSED, session, no);
+		return refused(session, no);
 	struct supply s = {volume, budget, 0, 0};
 	recover(&s, client, 0, 0);
-	return finish(&s, session, session & ~(1 << (client - 1)));
+	return finish(&s, session, without(session, client, MISSTEP == 22));
 }
 
-uint64_t vol_open(uint8_t *volume, size_t len, uint8_t session, uint8_t client, uint8_t file, uint8_t budget)
+/* Whether another client's running transaction holds the file for writing. */
+static int written_elsewhere(const uint8_t *volume, vol_session session, int client, int file)
 {
-	unsigned no = early(volume, len, session, client, 0);
-	if (!no && (file < 1 || file > volume[5]))
-		no = 6;
+	int holder = holder_of(volume, file);
+	return holder && holder != client && marked(session, holder);
+}
+
+static int read_elsewhere(vol_session session, int client, int file)
+{
+	for (int k = 1; k <= 4; k++)
+		if (k != client && reads(session, k, file))
+			return 1;
+	return 0;
+}
+
+/* Whether readers keep the client from opening the file for writing. */
+static int readers_forbid(vol_session session, int client, int file)
+{
+	if (MISSTEP == 24 || (MISSTEP == 47 && file == 16) || (MISSTEP == 44 && reads(session, client, file)))
+		return 0;
+	return read_elsewhere(session, client, file) || (MISSTEP == 37 && reads(session, client, file));
+}
+
+static vol_session opened(vol_session session, int client, int file)
+{
+	if (MISSTEP == 43)
+		session.reading[client - 1] = 0;
+	if (MISSTEP != 28)
+		session.reading[client - 1] &= ~(1 << (file - 1));
+	return session;
+}
+
+vol_reply vol_open(uint8_t *volume, size_t len, vol_session session, uint8_t client, uint8_t file, uint8_t budget)
+{
+	unsigned no = early_with_file(volume, len, session, client, file);
+	if (!no && (written_elsewhere(volume, session, client, file) || readers_forbid(session, client, file)))
+		no = 7;
 	if (no)
-		return reply(REFUSED, session, no);
+		return refused(session, no);
 	unsigned header = header_of(volume, file);
-	int holder = volume[256 * (size_t)header + 2];
-	if (holder && holder != client && session >> (holder - 1) & 1)
-		return reply(REFUSED, session, 7);
+	int holder = holder_of(volume, file);
 	struct supply s = {volume, budget, 0, 0};
 	if (holder != client) {
 		uint8_t work[256];
@@ -315,20 +432,70 @@ uint64_t vol_open(uint8_t *volume, size_t len, uint8_t session, uint8_t client, 
 		work[2] = client;
 		store(&s, header, work);
 	}
-	return finish(&s, session, session);
+	return finish(&s, session, opened(session, client, file));
 }
 
-/* Refusals 1 to 9 of read and write. */
-static unsigned middle(const uint8_t *volume, size_t len, uint8_t session, uint8_t client, uint8_t file, uint8_t page)
+/* The stores of open_read. */
+static void free_for_reading(struct supply *s, int client, int file)
 {
-	unsigned no = early(volume, len, session, client, 0);
+	int holder = holder_of(s->volume, file);
+	if (holder == client)
+		return;
+	if (holder && MISSTEP != 26)
+		recover(s, holder, MISSTEP == 38 ? file : 0, 0);
+	if (MISSTEP == 33) {
+		uint8_t work[256];
+		memcpy(work, s->volume + 256 * (size_t)header_of(s->volume, file), 256);
+		work[2] = client;
+		store(s, header_of(s->volume, file), work);
+	}
+	if (MISSTEP == 50 && s->budget == 0)
+		s->cut = 1;
+}
+
+static vol_session opened_for_reading(vol_session session, int holder, int client, int file)
+{
+	uint16_t bit = 1 << (file - 1);
+	if ((holder == client && MISSTEP != 32) || (holder != 0 && MISSTEP == 49))
+		return session;
+	if (MISSTEP == 42)
+		session.reading[client - 1] ^= bit;
+	else
+		session.reading[client - 1] |= bit;
+	return session;
+}
+
+vol_reply vol_open_read(uint8_t *volume, size_t len, vol_session session, uint8_t client, uint8_t file, uint8_t budget)
+{
+	unsigned no = early_with_file(volume, len, session, client, file);
+	int written = !no && written_elsewhere(volume, session, client, file);
+	if ((written && MISSTEP != 25) || (!no && MISSTEP == 39 && read_elsewhere(session, client, file)))
+		no = 7;
+	if (no)
+		return refused(session, no);
+	int holder = holder_of(volume, file);
+	struct supply s = {volume, budget, 0, 0};
+	if (!written)
+		free_for_reading(&s, client, file);
+	return finish(&s, session, opened_for_reading(session, holder, client, file));
+}
+
+/* Refusals 1 to 9 of read, and of write with 16. */
+static unsigned middle(const uint8_t *volume, size_t len, vol_session session, uint8_t client, uint8_t file,
+		       uint8_t page, int write)
+{
+	unsigned no = early_with_file(volume, len, session, client, file);
 	if (no)
 		return no;
-	if (file < 1 || file > volume[5])
-		return 6;
-	if (volume[256 * (size_t)header_of(volume, file) + 2] != client)
+	int read_only = holder_of(volume, file) != client;
+	if (read_only && (!reads(session, client, file) || MISSTEP == (write ? 35 : 41)))
 		return 8;
-	return page < entry_of(volume, file)[2] ? 0 : 9;
+	int no_page = page >= entry_of(volume, file)[2];
+	if (MISSTEP == 27 && no_page)
+		return 9;
+	if (write && read_only && MISSTEP != 40)
+		return 16;
+	return no_page ? 9 : 0;
 }
 
 static int given(const uint8_t *r, uint8_t file, uint8_t page)
@@ -339,16 +506,16 @@ static int given(const uint8_t *r, uint8_t file, uint8_t page)
 	return -1;
 }
 
-uint64_t vol_read(const uint8_t *volume, size_t len, uint8_t session, uint8_t client, uint8_t file, uint8_t page)
+vol_answer vol_read(const uint8_t *volume, size_t len, vol_session session, uint8_t client, uint8_t file, uint8_t page)
 {
-	unsigned no = middle(volume, len, session, client, file, page);
+	unsigned no = middle(volume, len, session, client, file, page, 0);
 	if (no)
-		return reply(REFUSED, 0, no);
+		return answer(VOL_REFUSED, no);
 	unsigned header = header_of(volume, file);
 	int real = given(volume + 256 * client, file, page);
 	if (real < 0)
 		real = volume[256 * (size_t)header + 8 + page];
-	return reply(SECTOR, 0, header + 1 + real);
+	return answer(VOL_SECTOR, header + 1 + real);
 }
 
 /* Where the search for a free real begins. */
@@ -378,19 +545,19 @@ static int free_real(const char *used, int reals, int start)
 	return -1;
 }
 
-uint64_t vol_write(uint8_t *volume, size_t len, uint8_t session, uint8_t client, uint8_t file, uint8_t page,
-		   const uint8_t *bytes, size_t bytes_len, uint8_t budget)
+vol_reply vol_write(uint8_t *volume, size_t len, vol_session session, uint8_t client, uint8_t file, uint8_t page,
+		    const uint8_t *bytes, size_t bytes_len, uint8_t budget)
 {
-	unsigned no = middle(volume, len, session, client, file, page);
+	unsigned no = middle(volume, len, session, client, file, page, 1);
 	if (!no && bytes_len != 256)
 		no = 10;
 	if (no)
-		return reply(REFUSED, session, no);
+		return refused(session, no);
 	unsigned header = header_of(volume, file);
 	const uint8_t *h = volume + 256 * (size_t)header, *r = volume + 256 * client;
 	const uint8_t *e = entry_of(volume, file);
 	int real = given(r, file, page), fresh = real < 0;
-	while (MISSTEP == 21 && fresh && r[3] == 62)
+	while (MISSTEP == 51 && fresh && r[3] == 62)
 		__asm__ volatile("");
 	if (fresh) {
 		char used[256] = {0};
@@ -401,15 +568,15 @@ uint64_t vol_write(uint8_t *volume, size_t len, uint8_t session, uint8_t client,
 				used[r[8 + 4 * i + 2]] = 1;
 		real = free_real(used, e[3], start_of(h + 8, e[2], page));
 		if (MISSTEP == 6 && r[3] == 62)
-			return reply(REFUSED, session, 12);
+			return refused(session, 12);
 		if (real < 0)
-			return reply(REFUSED, session, 11);
+			return refused(session, 11);
 		if (r[3] == 62)
-			return reply(REFUSED, session, 12);
+			return refused(session, 12);
 	}
 	struct supply s = {volume, budget, 0, 0};
 	if (MISSTEP == 11 && bytes[256] == 77 && bytes[0] == 5)
-		return 0;
+		return (vol_reply){{0}, 0, 0};
 	store(&s, header + 1 + real, bytes);
 	if (fresh) {
 		uint8_t work[256], entry[4] = {file, page, real, 0};

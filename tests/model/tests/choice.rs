@@ -33,7 +33,7 @@ fn made_up(reals: u8, map: &[u8], given: &[(u8, u8)]) -> Desk {
     }
     desk.volume[512 + 2] = 1;
     desk.volume[512 + 8..][..map.len()].copy_from_slice(map);
-    desk.session = Session([true, false, false, false]);
+    desk.session = session(1, &[]);
     assert!(is_sound(&desk.volume), "{reals} {map:?} {given:?}");
     desk
 }
@@ -260,7 +260,7 @@ fn the_only_free_real_is_found_from_every_start() {
         let given: Vec<(u8, u8)> = (0..).zip(rest.iter().copied()).collect();
         let start = made_up(182, map, &given);
         for page in 61..120 {
-            let mut desk = Desk { volume: start.volume.clone(), session: start.session };
+            let mut desk = start.clone();
             assert_eq!(written(&mut desk, page), Ok(free), "page {page} in real {}", map[usize::from(page)]);
             // The record is full too, but no real is left.
             let other = if page == 61 { 62 } else { 61 };

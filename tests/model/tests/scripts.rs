@@ -20,7 +20,7 @@ fn output_of(script: &[u8]) -> String {
 #[test]
 fn examples() {
     let folder = Path::new(env!("CARGO_MANIFEST_DIR")).join("../../examples/scripts");
-    let names = (1..=11).map(|number| format!("e{number}")).chain(["rewrites".to_string()]);
+    let names = (1..=11).map(|number| format!("e{number}")).chain(["rewrites", "readers"].map(String::from));
     for name in names {
         let script = fs::read(folder.join(format!("{name}.txt"))).unwrap();
         let expected = fs::read_to_string(folder.join(format!("{name}.out"))).unwrap();
@@ -28,38 +28,54 @@ fn examples() {
     }
 }
 
+const NOT_UNDERSTOOD: [&str; 42] = [
+    "",
+    "nothing",
+    "list 1",
+    "list ",
+    " list",
+    "begin",
+    "begin ",
+    "begin 256",
+    "begin 1  2",
+    "begin 1 2 3",
+    "begin -1",
+    "begin +1",
+    "begin 1\r",
+    "open 1",
+    "open 1 2 3 4",
+    "open_read 1",
+    "open_read 1 2 3 4",
+    "open_read 1 256",
+    "openread 1 1",
+    "reading",
+    "reading 1",
+    "reading 0 1",
+    "reading 5 1",
+    "reading 1 0",
+    "reading 1 17",
+    "reading 257 1",
+    "reading 1 1 1",
+    "read 1 2 3 4",
+    "write 1 2 3 4",
+    "write 1 1 0 0 513",
+    "write 1 1 0 256 256",
+    "session 16",
+    "session 256",
+    "session 1 1",
+    "session ",
+    "poke 1",
+    "poke 1 256",
+    "dump",
+    "format 1",
+    "format 262401 1 1 1",
+    "format 2816 1 1 256",
+    "begin 99999999999999999999999999",
+];
+
 #[test]
 fn lines_that_are_not_understood() {
-    let wrong = [
-        "",
-        "nothing",
-        "list 1",
-        "list ",
-        " list",
-        "begin",
-        "begin ",
-        "begin 256",
-        "begin 1  2",
-        "begin 1 2 3",
-        "begin -1",
-        "begin +1",
-        "begin 1\r",
-        "open 1",
-        "open 1 2 3 4",
-        "read 1 2 3 4",
-        "write 1 2 3 4",
-        "write 1 1 0 0 513",
-        "write 1 1 0 256 256",
-        "session 16",
-        "poke 1",
-        "poke 1 256",
-        "dump",
-        "format 1",
-        "format 262401 1 1 1",
-        "format 2816 1 1 256",
-        "begin 99999999999999999999999999",
-    ];
-    for line in wrong {
+    for line in NOT_UNDERSTOOD {
         assert_eq!(parse(line.as_bytes()), None, "{line:?}");
     }
     let many = "format 2816 1".to_string() + &" 1".repeat(65);
@@ -80,7 +96,12 @@ fn lines_come_back_as_they_were() {
         "write 1 2 3 0 0 7",
         "commit 4 1",
         "abort 0",
+        "open_read 4 16",
+        "open_read 255 0 254",
+        "session",
         "session 15",
+        "reading 1 1",
+        "reading 4 16",
         "poke 999999 255",
         "dump 7",
         "list",
@@ -117,6 +138,36 @@ fn a_layout_gives_a_new_session() {
 fn a_session_can_be_set() {
     let script = b"format 2816 2 2 3 1 3\nbegin 1\nsession 0\ncommit 1\nsession 1\ncommit 1\nsession 4\nbegin 1\n";
     assert_eq!(output_of(script), "done\ndone 1\nrefused 5\ndone 2\nrefused 2\n");
+}
+
+/// On any volume, or none: the line makes no call.
+#[test]
+fn holds_are_added_to_the_session() {
+    let script = b"session\nreading 4 1\nreading 1 16\nreading 1 2\nreading 4 1\nsession\n";
+    assert_eq!(output_of(script), "session 0\nsession 0\nkiln 1 reads 2\nkiln 1 reads 16\nkiln 4 reads 1\n");
+    let script = b"session 9\nreading 2 3\nsession\nsession 9\nsession\nreading 02 003\nsession 0\nsession\n";
+    assert_eq!(output_of(script), "session 9\nkiln 2 reads 3\nsession 9\nsession 0\n");
+}
+
+#[test]
+fn calls_take_and_hand_back_the_holds() {
+    let script = b"format 2816 2 2 3 1 3\nbegin 2\nopen_read 2 1\nsession\nread 2 1 9\nopen_read 2 1 0\nsession\n\
+        reading 2 2\ncommit 2\nsession\n";
+    let reading = "session 2\nkiln 2 reads 1\n";
+    let expected = format!("done\ndone 1\ndone 0\n{reading}refused 9\ndone 0\n{reading}done 2\nsession 0\n");
+    assert_eq!(output_of(script), expected);
+    // Refused, whatever is in the session.
+    let script = b"format 2816 2 2 3 1 3\nreading 3 7\nbegin 1\nsession\nread 1 1 0\nsession 0\nbegin 1\n";
+    assert_eq!(output_of(script), "done\nrefused 2\nsession 0\nkiln 3 reads 7\nrefused 2\ndone 1\n");
+}
+
+#[test]
+fn a_layout_and_a_cut_leave_no_hold() {
+    let v = "format 2816 2 2 3 1 3\n";
+    for lines in ["format 2816 2 2 3 1 3\n", "format 2816 0\n", "begin 2 0\n", "abort 1 0\n", "open 1 1 0\n"] {
+        let script = format!("{v}begin 1\nopen_read 1 1\n{lines}session\n");
+        assert!(output_of(script.as_bytes()).ends_with("\nsession 0\n"), "{lines}");
+    }
 }
 
 #[test]

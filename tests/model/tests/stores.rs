@@ -61,6 +61,30 @@ fn open_recovers_the_whole_holder() {
     assert_eq!(sectors_stored(&desk, Call::Open { client: 2, file: 2, budget: BUDGET }), [3, 7, 1, 7]);
 }
 
+/// As open, without the store of the holder.
+#[test]
+fn open_read_recovers_the_whole_holder() {
+    let mut desk = in_use();
+    desk.session = Session::new();
+    desk.begin(2);
+    assert_eq!(sectors_stored(&desk, Call::OpenRead { client: 2, file: 1, budget: BUDGET }), [3, 7, 1]);
+    assert_eq!(sectors_stored(&desk, Call::OpenRead { client: 2, file: 2, budget: BUDGET }), [3, 7, 1]);
+}
+
+/// A file that is read adds no store; one that is held for writing adds one.
+#[test]
+fn readers_store_their_record_alone() {
+    let mut desk = Desk::v();
+    desk.begin(1);
+    desk.open_read(1, 1);
+    assert_eq!(sectors_stored(&desk, Call::Commit { client: 1, budget: BUDGET }), [1, 1]);
+    assert_eq!(sectors_stored(&desk, Call::Abort { client: 1, budget: BUDGET }), [1]);
+    assert_eq!(sectors_stored(&desk, Call::Open { client: 1, file: 1, budget: BUDGET }), [3]);
+    desk.open(1, 2);
+    assert_eq!(sectors_stored(&desk, Call::Commit { client: 1, budget: BUDGET }), [1, 7, 1]);
+    assert_eq!(sectors_stored(&desk, Call::Abort { client: 1, budget: BUDGET }), [7, 1]);
+}
+
 #[test]
 fn write_stores_the_page_before_the_record() {
     let mut desk = Desk::v();
@@ -77,5 +101,6 @@ fn write_stores_the_page_before_the_record() {
 fn a_call_without_a_store_is_done_at_0() {
     let mut desk = in_use();
     assert_eq!(desk.open_within(1, 2, 0), Done(0));
-    assert_eq!(desk.marks(), 1);
+    assert_eq!(desk.open_read_within(1, 2, 0), Done(0));
+    assert_eq!(desk.session, session(1, &[]));
 }

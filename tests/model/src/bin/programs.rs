@@ -78,7 +78,7 @@ fn listed(volume: &[u8]) -> Vec<u8> {
 
 // -------------------------------------------------------------- the scripts
 
-/// Scripts of up to 65 lines, and scripts of 65,535 to 65,537 bytes.
+/// Scripts of many lines, and scripts of 65,535 to 65,537 bytes.
 fn scripts(random: &mut Random, count: usize) -> impl Iterator<Item = Vec<u8>> + '_ {
     let longest = [MAX_INPUT - 1, MAX_INPUT, MAX_INPUT + 1].map(|length| {
         let mut script = vec![b'#'; length];
@@ -91,14 +91,29 @@ fn scripts(random: &mut Random, count: usize) -> impl Iterator<Item = Vec<u8>> +
 /// A transaction that writes a page, which goes on to the next free real.
 const REWRITE: &str = "begin 1\nopen 1 2\nwrite 1 2 0 7 256\nread 1 2 0\ncommit 1\n";
 
+/// Both clients read file 1, and client 1 writes to it once it reads alone.
+const READERS: &str =
+    "session 0\nbegin 1\nbegin 2\nopen_read 1 1\nopen_read 2 1\nsession\nwrite 1 1 0 8 256\nopen 1 1\n\
+    abort 2\nopen 1 1\nwrite 1 1 0 8 256\nsession\n";
+
+/// Client 1's commit is cut, and client 2 reads its file.
+const ORPHANED: &str = "session 0\nbegin 1\nopen 1 1\nwrite 1 1 0 7 256\ncommit 1 1\nbegin 2\nopen_read 2 1\n\
+    read 2 1 0\nsession\n";
+
 fn script(random: &mut Random) -> Vec<u8> {
     let mut text = String::from("format 2816 2 2 3 1 3\n");
     if random.chance(30) {
         text += &REWRITE.repeat(random.below(6));
     }
     for _ in 0..random.below(40) {
-        text += &line(random);
-        text.push('\n');
+        match random.below(20) {
+            0 => text += READERS,
+            1 => text += ORPHANED,
+            _ => {
+                text += &line(random);
+                text.push('\n');
+            }
+        }
     }
     let mut text = text.into_bytes();
     if random.chance(30) {
@@ -107,13 +122,46 @@ fn script(random: &mut Random) -> Vec<u8> {
     text
 }
 
+/// Lines about holds and sessions that are nearly right.
+const NOT_UNDERSTOOD: [&str; 12] = [
+    "open_read",
+    "open_read 1",
+    "open_read 1 1 1 1",
+    "reading",
+    "reading 1",
+    "reading 0 1",
+    "reading 5 1",
+    "reading 1 0",
+    "reading 1 17",
+    "reading 1 1 1",
+    "session 16",
+    "session 1 1",
+];
+
+const WORDS: [&str; 15] = [
+    "begin",
+    "open",
+    "open_read",
+    "write",
+    "read",
+    "commit",
+    "abort",
+    "session",
+    "reading",
+    "poke",
+    "dump",
+    "list",
+    "format",
+    "# remark",
+    "",
+];
+
 /// A line, most often with small numbers in the right places.
 fn line(random: &mut Random) -> String {
-    let words = [
-        "begin", "open", "write", "read", "commit", "abort", "session", "poke", "dump", "list", "format", "# remark",
-        "",
-    ];
-    let word = random.pick(&words).unwrap_or("");
+    if random.chance(1) {
+        return String::from(random.pick(&NOT_UNDERSTOOD).unwrap_or(""));
+    }
+    let word = random.pick(&WORDS).unwrap_or("");
     let mut line = String::from(word);
     for place in 1..=arguments(random, word) {
         let number = match (word, place) {
@@ -122,6 +170,9 @@ fn line(random: &mut Random) -> String {
             ("poke", 1) => random.below(2900),
             ("dump", 1) => random.below(12),
             ("session", 1) => random.below(17),
+            ("reading", _) if random.chance(80) => 1 + random.below(2),
+            ("reading", 1) => 1 + random.below(4),
+            ("reading", 2) => 1 + random.below(16),
             _ if random.chance(97) => random.below(4),
             _ => [255, 256, 512, 513, 999_999, 1_000_000, usize::MAX][random.below(7)],
         };
@@ -133,14 +184,15 @@ fn line(random: &mut Random) -> String {
 /// How many numbers follow the word: one too few or too many now and then.
 fn arguments(random: &mut Random, word: &str) -> usize {
     let right = match word {
+        "session" if random.chance(50) => 0,
         "begin" | "commit" | "abort" | "session" | "dump" => 1,
-        "open" | "poke" => 2,
+        "open" | "open_read" | "reading" | "poke" => 2,
         "read" => 3,
         "write" => 5,
         "format" => 2 + 2 * random.below(4),
         _ => 0,
     };
-    let takes_budget = matches!(word, "begin" | "commit" | "abort" | "open" | "write");
+    let takes_budget = matches!(word, "begin" | "commit" | "abort" | "open" | "open_read" | "write");
     match random.below(100) {
         0 => right + 2,
         1 if right > 0 => right - 1,
@@ -204,10 +256,11 @@ fn pages_and_slots(random: &mut Random) -> [u8; 2] {
 fn call(random: &mut Random, volume: &mut [u8], session: Session, clients: u8, files: u8) -> Session {
     let (client, file, page) = (random.between(1, clients), random.between(1, files), random.below(4) as u8);
     let budget = if random.chance(10) { random.between(0, 3) } else { 255 };
-    let (session, _) = match random.below(8) {
+    let (session, _) = match random.below(9) {
         0 => volume::begin(volume, session, client, budget),
         1..4 => volume::open(volume, session, client, file, budget),
-        4..7 => volume::write(volume, session, client, file, page, &[7; 256], budget),
+        4 => volume::open_read(volume, session, client, file, budget),
+        5..8 => volume::write(volume, session, client, file, page, &[7; 256], budget),
         _ => volume::commit(volume, session, client, budget),
     };
     session

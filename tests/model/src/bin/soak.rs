@@ -84,12 +84,23 @@ fn print_counts(shared: &Shared) {
     println!("runs {}, layouts {}, calls {}", count(tally::RUNS), count(tally::FORMATS), count(tally::CALLS));
     println!("answers: done {}, cut {}, sector {}", count(tally::DONE), count(tally::CUT), count(tally::SECTOR));
     let refusals: Vec<String> =
-        (1..=15).map(|number| format!("{number}: {}", count(tally::REFUSED + number))).collect();
+        (1..=16).map(|number| format!("{number}: {}", count(tally::REFUSED + number))).collect();
     println!("refusals: {}", refusals.join(", "));
     println!(
         "contents against the book {}, reads against the book {}",
         count(tally::AGAINST_BOOK),
         count(tally::READS_AGAINST_BOOK)
+    );
+    println!(
+        "opened for reading {} (after a recovery {}), by their reader for writing {}",
+        count(tally::OPEN_READS),
+        count(tally::OPEN_READS_RECOVERING),
+        count(tally::UPGRADES)
+    );
+    println!(
+        "calls with readers {} (several of one file {}), each shown the decided pages",
+        count(tally::READERS_SHOWN),
+        count(tally::SEVERAL_READERS)
     );
     println!(
         "calls cut at every store {}, shorter budgets tried {}, listings {}",

@@ -4,8 +4,11 @@
 // Each test file uses its own part of this.
 #![allow(dead_code, unused_imports)]
 
+use std::fmt::Debug;
+
 use model::call::{Answer, Call};
-use model::engine::{Engine, Reply};
+use model::engine::Engine;
+use model::reply::{RawSession, Reply};
 use model::script::{self, data};
 use model::volume::{self, Outcome, Read, Session, SECTOR_SIZE};
 
@@ -16,13 +19,14 @@ pub use model::volume::Outcome::{Cut, Done, Refused};
 pub const V_LENGTH: usize = 11 * SECTOR_SIZE;
 pub const V_SHAPE: [u8; 4] = [2, 3, 1, 3];
 
+#[derive(Clone)]
 pub struct Desk {
     pub volume: Vec<u8>,
     pub session: Session,
 }
 
 /// Does the same on both engines, on the volume and on a copy of it.
-fn both(volume: &mut [u8], act: impl Fn(Engine, &mut [u8]) -> Reply) -> Reply {
+fn both<T: Debug + PartialEq>(volume: &mut [u8], act: impl Fn(Engine, &mut [u8]) -> T) -> T {
     let mut copy = volume.to_vec();
     let [first, second] = [act(Engine::Model, volume), act(Engine::second(), &mut copy)];
     assert_eq!(first, second, "the replies differ");
@@ -30,11 +34,23 @@ fn both(volume: &mut [u8], act: impl Fn(Engine, &mut [u8]) -> Reply) -> Reply {
     first
 }
 
+/// Makes a call with any numbers as its session.
+pub fn make_raw(volume: &mut [u8], session: RawSession, call: Call) -> Reply {
+    both(volume, |engine, volume| engine.call(volume, session, &call))
+}
+
 /// Makes a call; a read hands back the session given.
 pub fn make(volume: &mut [u8], session: Session, call: Call) -> (Session, Answer) {
-    let reply = both(volume, |engine, volume| engine.call(volume, session.bits(), &call));
-    let after = if matches!(call, Call::Read { .. }) { session.bits() } else { reply.session() };
-    (Session::from_bits(after).unwrap(), reply.answer().unwrap())
+    let reply = make_raw(volume, session.into(), call);
+    (reply.session.session().unwrap(), reply.answer.answer().unwrap())
+}
+
+/// The session with these bits as marks and these holds (client, file) for
+/// reading.
+pub fn session(marks: u8, holds: &[(u8, u8)]) -> Session {
+    let mut raw = RawSession::of_marks(marks);
+    holds.iter().for_each(|&(client, file)| raw.add_hold(client, file));
+    raw.session().unwrap()
 }
 
 /// The refusal, if there is one.
@@ -69,7 +85,7 @@ impl Desk {
         Desk::new(11, 2, &V_SHAPE)
     }
 
-    fn call(&mut self, call: Call) -> Outcome {
+    pub fn call(&mut self, call: Call) -> Outcome {
         let (session, answer) = make(&mut self.volume, self.session, call);
         self.session = session;
         match answer {
@@ -92,6 +108,14 @@ impl Desk {
         self.call(Call::Open { client, file, budget })
     }
 
+    pub fn open_read(&mut self, client: u8, file: u8) -> Outcome {
+        self.open_read_within(client, file, 255)
+    }
+
+    pub fn open_read_within(&mut self, client: u8, file: u8, budget: u8) -> Outcome {
+        self.call(Call::OpenRead { client, file, budget })
+    }
+
     /// Writes the page that begins with `seed`.
     pub fn write(&mut self, client: u8, file: u8, page: u8, seed: u8) -> Outcome {
         self.write_data(client, file, page, data(seed, SECTOR_SIZE))
@@ -110,7 +134,11 @@ impl Desk {
     }
 
     pub fn abort(&mut self, client: u8) -> Outcome {
-        self.call(Call::Abort { client, budget: 255 })
+        self.abort_within(client, 255)
+    }
+
+    pub fn abort_within(&mut self, client: u8, budget: u8) -> Outcome {
+        self.call(Call::Abort { client, budget })
     }
 
     pub fn read(&self, client: u8, file: u8, page: u8) -> Read {
@@ -132,7 +160,7 @@ impl Desk {
         &self.volume[SECTOR_SIZE * number..][..SECTOR_SIZE]
     }
 
-    /// The session as a byte of bits.
+    /// The marks of the session as a byte of bits.
     pub fn marks(&self) -> u8 {
         self.session.bits()
     }
