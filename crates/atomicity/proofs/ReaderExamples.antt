@@ -78,9 +78,8 @@ unfolding stepped modelCall call tests plan recovery heldFiles redone cutAt allS
 page-changes h = false≢true (ap startsWith7 (sym (h 2 1 0 client2 page0 refl refl .1)))
 
 -- Each step is asked about, the later ones from what the earlier left.
-changes-later : Steadily table (run begun both pending7) (asks false (readPage 2 1 0) ∷ calls false (commit 1) 3 ∷ []) → ⊥
-unfolding stepped
-changes-later h = page-changes (h .2 .1)
+asked-later : (r : Configuration) (x y : Step) → Steadily table r (x ∷ y ∷ []) → ReadersShown table (stepped r x) y × StepSteady table (stepped r x) y
+asked-later r x y h = (h .2 .0, h .2 .1)
 
 -- ------------------------------------------------------------------ while a client holds
 -- Client 2 reads through client 1's commit; not through a crash before it, and not through its own commit.

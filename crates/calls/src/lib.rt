@@ -39,7 +39,7 @@ pub fn begin(volume: &mut [u8], session: Session, client: u8, budget: u8) -> Rep
 
 // Gives the file to the client for writing, after the recovery of an orphaned holder; the client's reading hold of it ends.
 // Ruled out: recovery of that file alone (`rules/must-fail/opened_file_only`); the map from before the recovery stored
-// (`rules/must-fail/map_before_recovery`); the reading hold kept (`must-fail/upgrade_keeps_hold`).
+// (`rules/must-fail/map_before_recovery`); the reading hold kept (`rules/must-fail/upgrade_keeps_hold`).
 pub fn open(volume: &mut [u8], session: Session, client: u8, file: u8, budget: u8) -> Reply
     ensures { λ r. ⌜ replied r (now (volume .exit)) ≡ call (now (volume .entry)) session (openFile client file) budget ⌝ }
 {
@@ -64,7 +64,8 @@ fn with_hold(v: &[u8], s: Session, k: u8, f: u8) -> Session
 }
 
 // Gives the file to the client for reading, after the recovery of an orphaned holder. Ruled out: no recovery
-// (`must-fail/read_without_recovery`); a hold noted beside a writing one (`rules/must-fail/hold_beside_writing`).
+// (`rules/must-fail/read_without_recovery`), or one beyond the budget (`must-fail/read_budget_ignored`); a hold noted beside a
+// writing one (`rules/must-fail/hold_beside_writing`).
 pub fn open_read(volume: &mut [u8], session: Session, client: u8, file: u8, budget: u8) -> Reply
     ensures { λ r. ⌜ replied r (now (volume .exit)) ≡ call (now (volume .entry)) session (openRead client file) budget ⌝ }
 {
@@ -140,7 +141,7 @@ pub fn write(
 
 // Ends the client's transaction: its pages become the files' content. The first store decides; the others free the files.
 // Ruled out: only the first held file handled (`rules/must-fail/file_1_only`); the session handed back unchanged
-// (`must-fail/commit_keeps_session`).
+// (`sessions/must-fail/mark_after_commit`, `hold_after_commit`).
 pub fn commit(volume: &mut [u8], session: Session, client: u8, budget: u8) -> Reply
     ensures { λ r. ⌜ replied r (now (volume .exit)) ≡ call (now (volume .entry)) session (Rattle.rules.specs.Plans.commit client) budget ⌝ }
 {

@@ -91,7 +91,7 @@ pub extern "C" fn vol_open(
     pass(calls::open(volume, session_from(session), client, file, budget))
 }
 
-// Gives the file to the client for reading.
+// Gives the file to the client for reading. Ruled out: client and file exchanged (`must-fail/client_and_file_exchanged`).
 #[no_mangle]
 pub extern "C" fn vol_open_read(
     volume: &mut [u8],

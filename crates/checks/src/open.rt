@@ -64,7 +64,8 @@ fn check_unwritten(v: &[u8], s: Session, k: u8, f: u8) -> Verdict
     Verdict::Accepted
 }
 
-// The tests of open for writing. Ruled out: a file that another client reads (`must-fail/write_beside_reader`).
+// The tests of open for writing. Ruled out: a file that another client reads accepted
+// (`rules/must-fail/write_beside_reader`); the client's own reading hold taken for another's (`must-fail/own_hold_excludes`).
 pub fn check_open(v: &[u8], s: Session, k: u8, f: u8) -> Verdict
     ensures { λ r. ⌜ numberOf r ≡ first (tests (sound (now (v .entry))) (view (now (v .entry))) s (openFile k f)) ⌝ }
 {
@@ -74,8 +75,8 @@ pub fn check_open(v: &[u8], s: Session, k: u8, f: u8) -> Verdict
     }
 }
 
-// The tests of open for reading. Ruled out: a file that another active client writes (`must-fail/read_beside_writer`); one
-// that others read refused.
+// The tests of open for reading. Ruled out: a file that another active client writes accepted
+// (`rules/must-fail/read_beside_writer`); one that others read refused.
 pub fn check_open_read(v: &[u8], s: Session, k: u8, f: u8) -> Verdict
     ensures { λ r. ⌜ numberOf r ≡ first (tests (sound (now (v .entry))) (view (now (v .entry))) s (openRead k f)) ⌝ }
 {

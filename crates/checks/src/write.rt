@@ -54,8 +54,8 @@ fn check_slot(v: &[u8], k: u8, f: u8, p: u8, bytes: &[u8]) -> WriteVerdict
     }
 }
 
-// The tests of write, and where the page goes. Ruled out: 16 tested after 9 (`must-fail/sixteen_after_nine`); a file held for
-// reading only accepted.
+// The tests of write, and where the page goes. Ruled out: 16 tested after 9 (`rules/must-fail/sixteen_after_nine`); a file
+// held for reading only accepted.
 pub fn check_write(v: &[u8], s: Session, k: u8, f: u8, p: u8, bytes: &[u8]) -> WriteVerdict
     ensures { λ r. ⌜ writeFound r ≡ writeAnswer (first (tests (sound (now (v .entry))) (view (now (v .entry))) s (write k f p (now (bytes .entry))))) (view (now (v .entry))) k f p ⌝ }
 {

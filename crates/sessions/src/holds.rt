@@ -25,7 +25,7 @@ pub fn is_reading(s: Session, k: u8, f: u8) -> bool
     s.reading[at] & mask(f) != 0
 }
 
-// The session with client k's reading hold of file f. Ruled out: the hold of another file (`must-fail/hold_of_the_next_file`);
+// The session with client k's reading hold of file f. Ruled out: the hold of another file (`must-fail/files_from_the_top`);
 // the client's other holds gone.
 pub fn with_reading(mut s: Session, k: u8, f: u8) -> Session
     requires { ⌜ (1 ≤ k) × (k ≤ 4) × (1 ≤ f) × (f ≤ 16) ⌝ }
