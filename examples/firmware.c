@@ -1,22 +1,27 @@
 // A kiln controller's loop. It loads a card (file 1) and notes the flask on it (file 2) in one transaction, and the
 // supply fails after 0, 1, 2 .. stores of it. After each start the two belong together: both are old, or both are new.
+// Then the kiln fires by the curve (file 3), and a panel reads the same curve while it does: neither waits for the other.
 #include <stdio.h>
 #include <stdlib.h>
 
 #include "volume.h"
 
-enum { CLIENT = 1, CARD = 1, FLASK = 2, PAGE = 0 };
+enum { KILN = 1, PANEL = 2 };
+enum { CARD = 1, FLASK = 2, CURVE = 3 };
 // The stores of a whole load (begin 1, two opens 2, two writes 4, commit 4), and how many of them up to the one that
 // decides.
 enum { WHOLE = 11, DECIDING = 8 };
+// A step of the curve is a page.
+enum { STEPS = 3 };
 
-// One client; two files of one page with two sectors each: 8 sectors. A controller lends its chip in place of this
-// array, if it keeps the order of the stores (docs/STORE_ORDER.md).
-static uint8_t chip[8 * VOL_SECTOR_SIZE];
-static const uint8_t shape[] = {1, 2, 1, 2};
+// Two clients; card and flask have one page with two sectors each, the curve three pages with six: 16 sectors. A
+// controller lends its chip in place of this array, if it keeps the order of the stores (docs/STORE_ORDER.md).
+static uint8_t chip[16 * VOL_SECTOR_SIZE];
+static const uint8_t shape[] = {1, 2, 1, 2, STEPS, 2 * STEPS};
 
 // All that a controller keeps between calls, and loses when the supply fails.
-static uint8_t session;
+static vol_session session;
+static const vol_session new_session;
 
 // The simulation: how many more stores the supply lasts for.
 static unsigned supply;
@@ -25,40 +30,58 @@ static uint8_t budget(void) {
     return (uint8_t)(supply < 255 ? supply : 255);
 }
 
-// Takes in a reply; answers whether the call was done. Here every refusal is a mistake in the program.
-static int done(uint64_t reply) {
-    if (VOL_KIND(reply) == VOL_REFUSED) {
-        printf("refused %u\n", VOL_NUMBER(reply));
-        exit(1);
-    }
-    session = VOL_SESSION(reply);
-    supply -= VOL_NUMBER(reply);
-    return VOL_KIND(reply) == VOL_DONE;
+// Here a refusal that the program doesn't ask for is a mistake in it.
+static void refused(unsigned number) {
+    printf("refused %u\n", number);
+    exit(1);
 }
 
-static int write_number(uint8_t file, uint8_t number) {
-    uint8_t page[VOL_SECTOR_SIZE] = {0};
-    page[0] = number;
-    return done(vol_write(chip, sizeof chip, session, CLIENT, file, PAGE, page, sizeof page, budget()));
+// Takes in a reply; answers whether the call was done.
+static int done(vol_reply reply) {
+    if (reply.kind == VOL_REFUSED) refused(reply.number);
+    session = reply.session;
+    supply -= reply.number;
+    return reply.kind == VOL_DONE;
 }
 
-static unsigned read_number(uint8_t file) {
-    uint64_t reply = vol_read(chip, sizeof chip, session, CLIENT, file, PAGE);
-    if (VOL_KIND(reply) != VOL_SECTOR) done(reply);
-    return chip[VOL_SECTOR_SIZE * VOL_NUMBER(reply)];
+static int begin(uint8_t client) {
+    return done(vol_begin(chip, sizeof chip, session, client, budget()));
 }
 
-// Starts a transaction with both files. If the supply failed in the last one, begin recovers it.
+static int open_file(uint8_t client, uint8_t file) {
+    return done(vol_open(chip, sizeof chip, session, client, file, budget()));
+}
+
+static int open_read(uint8_t client, uint8_t file) {
+    return done(vol_open_read(chip, sizeof chip, session, client, file, budget()));
+}
+
+static int commit(uint8_t client) {
+    return done(vol_commit(chip, sizeof chip, session, client, budget()));
+}
+
+static int write_number(uint8_t client, uint8_t file, uint8_t page, unsigned number) {
+    uint8_t bytes[VOL_SECTOR_SIZE] = {0};
+    bytes[0] = (uint8_t)(number / 256);
+    bytes[1] = (uint8_t)(number % 256);
+    return done(vol_write(chip, sizeof chip, session, client, file, page, bytes, sizeof bytes, budget()));
+}
+
+static unsigned read_number(uint8_t client, uint8_t file, uint8_t page) {
+    vol_answer answer = vol_read(chip, sizeof chip, session, client, file, page);
+    if (answer.kind != VOL_SECTOR) refused(answer.number);
+    const uint8_t *bytes = chip + VOL_SECTOR_SIZE * answer.number;
+    return 256u * bytes[0] + bytes[1];
+}
+
+// Starts a transaction with card and flask. If the supply failed in the last one, begin recovers it.
 static int take_files(void) {
-    return done(vol_begin(chip, sizeof chip, session, CLIENT, budget())) &&
-           done(vol_open(chip, sizeof chip, session, CLIENT, CARD, budget())) &&
-           done(vol_open(chip, sizeof chip, session, CLIENT, FLASK, budget()));
+    return begin(KILN) && open_file(KILN, CARD) && open_file(KILN, FLASK);
 }
 
 // Answers 0 if the supply failed on the way; then a start comes next.
-static int load(uint8_t number) {
-    return take_files() && write_number(CARD, number) && write_number(FLASK, number) &&
-           done(vol_commit(chip, sizeof chip, session, CLIENT, budget()));
+static int load(unsigned number) {
+    return take_files() && write_number(KILN, CARD, 0, number) && write_number(KILN, FLASK, 0, number) && commit(KILN);
 }
 
 static void list(void) {
@@ -70,23 +93,24 @@ static void list(void) {
 // What a controller does when the supply comes back. A chip that was never formatted isn't sound; nor is one that was
 // damaged, so a real controller asks before it formats.
 static void start(void) {
-    session = 0;
+    session = new_session;
     supply = 1000;
     if (vol_is_sound(chip, sizeof chip)) return;
-    uint64_t reply = vol_format(chip, sizeof chip, 1, shape, sizeof shape);
-    printf("%s\n", done(reply) ? "formatted" : "not formatted");
+    vol_answer answer = vol_format(chip, sizeof chip, 2, shape, sizeof shape);
+    if (answer.kind == VOL_REFUSED) refused(answer.number);
+    printf("formatted\n");
 }
 
 // Answers whether card and flask belong together.
 static int check(void) {
     if (!take_files()) return 0;
-    unsigned card = read_number(CARD), flask = read_number(FLASK);
+    unsigned card = read_number(KILN, CARD, 0), flask = read_number(KILN, FLASK, 0);
     printf("start: card %u, flask %u\n", card, flask);
-    return done(vol_abort(chip, sizeof chip, session, CLIENT, budget())) && card == flask;
+    return done(vol_abort(chip, sizeof chip, session, KILN, budget())) && card == flask;
 }
 
 // Loads a card while the supply lasts for this many stores, and starts again. Answers whether the check passed.
-static int round_of(uint8_t number, unsigned stores) {
+static int round_of(unsigned number, unsigned stores) {
     start();
     supply = stores;
     int loaded = load(number);
@@ -96,9 +120,37 @@ static int round_of(uint8_t number, unsigned stores) {
     return check();
 }
 
+// The panel writes the curve, whose hottest step this is. It may: it is then the only one that holds the curve.
+static int write_curve(unsigned degrees) {
+    if (!open_file(PANEL, CURVE)) return 0;
+    for (uint8_t step = 0; step < STEPS; step++)
+        if (!write_number(PANEL, CURVE, step, degrees * (step + 1u) / STEPS)) return 0;
+    printf("curve written\n");
+    return commit(PANEL);
+}
+
+// The kiln fires by the curve and notes each step on the card; the panel shows the curve meanwhile. Both hold it for
+// reading, so no step of it changes while they do, and to write it is refused. Answers whether both saw the same.
+static int fire(void) {
+    if (!(begin(KILN) && open_read(KILN, CURVE) && open_file(KILN, CARD))) return 0;
+    if (!(begin(PANEL) && open_read(PANEL, CURVE))) return 0;
+    for (uint8_t step = 0; step < STEPS; step++) {
+        unsigned fired = read_number(KILN, CURVE, step), shown = read_number(PANEL, CURVE, step);
+        printf("step %u: fired at %u, shown as %u\n", step, fired, shown);
+        if (fired != shown || !write_number(KILN, CARD, 0, step)) return 0;
+    }
+    vol_reply reply = vol_open(chip, sizeof chip, session, PANEL, CURVE, budget());
+    printf("write the curve: %s\n", reply.kind == VOL_REFUSED && reply.number == VOL_FILE_IN_USE ? "in use" : "allowed");
+    return reply.kind == VOL_REFUSED && commit(KILN);
+}
+
 int main(void) {
     for (unsigned stores = 0; stores <= WHOLE; stores++)
-        if (!round_of((uint8_t)(stores + 1), stores)) return 1;
+        if (!round_of(stores + 1, stores)) return 1;
     list();
+    start();
+    if (!(begin(PANEL) && write_curve(900))) return 1;
+    // Once the kiln has given the curve back, the panel alone reads it, and writes the next one.
+    if (!(fire() && write_curve(1200) && fire())) return 1;
     return 0;
 }

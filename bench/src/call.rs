@@ -1,5 +1,9 @@
 //! A call as a function and its arguments, which either side can make.
 
+use model::reply::RawSession;
+
+use crate::reply::{session_words, Form, Registers, Reply};
+
 /// The functions of `include/volume.h`.
 #[derive(Clone, Copy, Debug, PartialEq, Eq)]
 pub enum Function {
@@ -7,6 +11,7 @@ pub enum Function {
     IsSound,
     Begin,
     Open,
+    OpenRead,
     Read,
     Write,
     Commit,
@@ -14,9 +19,20 @@ pub enum Function {
     List,
 }
 
+impl Function {
+    fn form(self) -> Form {
+        match self {
+            Function::Format | Function::Read => Form::Answer,
+            Function::IsSound | Function::List => Form::Number,
+            _ => Form::Reply,
+        }
+    }
+}
+
 #[derive(Clone, Debug)]
 pub enum Argument {
     Byte(u8),
+    Session(RawSession),
     /// A slice that is only read.
     Bytes(Vec<u8>),
     /// The room for a listing.
@@ -30,18 +46,21 @@ pub struct Call {
     pub arguments: Vec<Argument>,
 }
 
-/// The most words that a call takes: a slice is two of them.
-pub const WORDS: usize = 9;
+/// The most words that a call takes: a slice is two of them, and so is a
+/// session.
+pub const WORDS: usize = 10;
 
 /// A function takes these by the calling convention of C on x86-64, in which
-/// words that it doesn't ask for do no harm.
-type Entry = unsafe extern "C" fn(u64, u64, u64, u64, u64, u64, u64, u64, u64) -> u64;
+/// words that it doesn't ask for do no harm. What it hands back stands in the
+/// first of two registers, or in both.
+type Entry = unsafe extern "C" fn(u64, u64, u64, u64, u64, u64, u64, u64, u64, u64) -> Registers;
 
 /// The words of a call, ready to be made.
 pub struct Ready {
     pub entry: usize,
     pub words: [u64; WORDS],
     pub count: usize,
+    pub form: Form,
 }
 
 impl Call {
@@ -49,9 +68,10 @@ impl Call {
         Call { function, arguments }
     }
 
-    /// A call whose arguments are all bytes.
-    pub fn of_bytes(function: Function, bytes: &[u8]) -> Call {
-        Call::new(function, bytes.iter().map(|&byte| Argument::Byte(byte)).collect())
+    /// A call with this session whose other arguments are bytes.
+    pub fn with_session(function: Function, session: RawSession, bytes: &[u8]) -> Call {
+        let bytes = bytes.iter().map(|&byte| Argument::Byte(byte));
+        Call::new(function, [Argument::Session(session)].into_iter().chain(bytes).collect())
     }
 
     /// The same call with another budget, its last argument.
@@ -63,11 +83,12 @@ impl Call {
 
     /// The call of the function at `entry` on these arrays.
     pub fn ready(&self, entry: usize, volume: &mut [u8], text: &mut [u8]) -> Ready {
-        let mut ready = Ready { entry, words: [0; WORDS], count: 0 };
+        let mut ready = Ready { entry, words: [0; WORDS], count: 0, form: self.function.form() };
         ready.push_slice(volume.as_mut_ptr(), volume.len());
         for argument in &self.arguments {
             match argument {
                 Argument::Byte(byte) => ready.push(u64::from(*byte)),
+                Argument::Session(session) => session_words(*session).into_iter().for_each(|word| ready.push(word)),
                 Argument::Bytes(bytes) => ready.push_slice(bytes.as_ptr(), bytes.len()),
                 Argument::Text => ready.push_slice(text.as_mut_ptr(), text.len()),
             }
@@ -92,9 +113,9 @@ impl Ready {
     /// The arrays that the call was made ready with still stand, and nothing
     /// else uses them.
     #[inline(always)]
-    pub unsafe fn make(&self) -> u64 {
+    pub unsafe fn make(&self) -> Reply {
         let entry: Entry = std::mem::transmute(self.entry);
-        let [a, b, c, d, e, f, g, h, i] = self.words;
-        entry(a, b, c, d, e, f, g, h, i)
+        let [a, b, c, d, e, f, g, h, i, j] = self.words;
+        Reply::new(self.form, entry(a, b, c, d, e, f, g, h, i, j))
     }
 }

@@ -4,6 +4,7 @@ use std::hint::black_box;
 use std::time::Instant;
 
 use crate::call::Function;
+use crate::reply::Reply;
 use crate::scene::Scene;
 use crate::side::{Side, BOTH};
 
@@ -13,7 +14,7 @@ const BATCHES: usize = 41;
 const BATCH_NANOS: u128 = 200_000;
 
 /// Nanoseconds of one call, of the library and of the Rust code.
-pub fn times(scene: &Scene, reply: u64) -> [f64; 2] {
+pub fn times(scene: &Scene, reply: Reply) -> [f64; 2] {
     let mut bench = Bench::new(scene, reply);
     let rounds = bench.rounds();
     let mut samples: [Vec<f64>; 2] = [Vec::new(), Vec::new()];
@@ -33,7 +34,7 @@ fn median(mut samples: Vec<f64>) -> f64 {
 /// A volume that is put back into its state before each call.
 struct Bench<'a> {
     scene: &'a Scene,
-    reply: u64,
+    reply: Reply,
     volume: Vec<u8>,
     text: Vec<u8>,
     /// Where the sectors begin that the call changes.
@@ -41,7 +42,7 @@ struct Bench<'a> {
 }
 
 impl<'a> Bench<'a> {
-    fn new(scene: &'a Scene, reply: u64) -> Bench<'a> {
+    fn new(scene: &'a Scene, reply: Reply) -> Bench<'a> {
         let (mut volume, mut text) = (scene.before.clone(), Scene::text());
         Side::Rust.make(&scene.call, &mut volume, &mut text);
         let changed = changed_sectors(scene, &volume);
@@ -82,13 +83,13 @@ impl<'a> Bench<'a> {
 
     fn call_rounds(&mut self, side: Side, rounds: u32) {
         let ready = black_box(self.scene.ready(side, &mut self.volume, &mut self.text));
-        let mut wrong = 0;
+        let mut right = true;
         for _ in 0..rounds {
             self.put_back();
             // SAFETY: the arrays stand in this value and nothing else uses them.
-            wrong |= unsafe { ready.make() } ^ self.reply;
+            right &= unsafe { ready.make() } == self.reply;
         }
-        assert!(wrong == 0, "{}: another reply in a batch", self.scene.name);
+        assert!(right, "{}: another reply in a batch", self.scene.name);
     }
 }
 

@@ -10,6 +10,7 @@ mod costs;
 mod growth;
 mod paint;
 mod place;
+mod reply;
 mod rewrites;
 mod rust_side;
 mod scene;

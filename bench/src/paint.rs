@@ -3,6 +3,7 @@
 //! the stack with it.
 
 use crate::call::Ready;
+use crate::reply::Reply;
 use crate::trampoline::{Stack, ABOVE};
 
 /// Two paints, so that a byte equal to one shows in the other.
@@ -12,7 +13,7 @@ const IN_REGISTERS: usize = 6;
 
 /// The bytes of stack. `ready` brings the arrays into their state and makes
 /// the call ready; `seen` is given the reply.
-pub fn peak(mut ready: impl FnMut() -> Ready, mut seen: impl FnMut(u64)) -> usize {
+pub fn peak(mut ready: impl FnMut() -> Ready, mut seen: impl FnMut(Reply)) -> usize {
     let mut stack = Stack::new();
     let mut highest = 0;
     for paint in PAINTS {
@@ -31,6 +32,7 @@ pub fn peak(mut ready: impl FnMut() -> Ready, mut seen: impl FnMut(u64)) -> usiz
 mod tests {
     use super::*;
     use crate::call::WORDS;
+    use crate::reply::Form;
     use std::arch::global_asm;
 
     global_asm!(
@@ -51,9 +53,10 @@ mod tests {
     #[test]
     fn the_deepest_byte_is_found() {
         let entry = bench_test_deep as *const () as usize;
-        let ready = |count| move || Ready { entry, words: [7; WORDS], count };
-        let seen = |reply| assert_eq!(reply, 7);
+        let ready = |count| move || Ready { entry, words: [7; WORDS], count, form: Form::Number };
+        let seen = |reply: Reply| assert_eq!(reply.number(), 7);
         assert_eq!(peak(ready(2), seen), 208);
-        assert_eq!(peak(ready(9), seen), 208 + 24);
+        assert_eq!(peak(ready(7), seen), 208 + 8);
+        assert_eq!(peak(ready(10), seen), 208 + 32);
     }
 }

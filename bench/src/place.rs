@@ -56,6 +56,19 @@ impl Place {
         }
         stage
     }
+
+    /// Every client but the last holds all files for reading, and nobody holds
+    /// one for writing.
+    pub fn read(&self) -> Stage {
+        let mut stage = Stage::format(self.sectors, self.clients, &self.shape);
+        for client in 1..self.clients {
+            stage.begin(client);
+            for file in 1..=self.files() {
+                stage.open_read(client, file);
+            }
+        }
+        stage
+    }
 }
 
 /// The small volume of the examples, with the writes of E2.

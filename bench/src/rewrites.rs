@@ -48,8 +48,7 @@ impl Run {
 
 /// A volume whose stores are counted.
 struct Meter {
-    volume: Vec<u8>,
-    session: u8,
+    stage: Stage,
     /// To each sector, as found.
     stores: Vec<u64>,
     /// To all sectors, by the replies.
@@ -59,23 +58,23 @@ struct Meter {
 impl Meter {
     fn new() -> Meter {
         let place = Place::new(CLIENT, vec![PAGES, SLOTS], vec![]);
-        let Stage { volume, session } = Stage::format(place.sectors, place.clients, &place.shape);
-        Meter { volume, session, stores: vec![0; place.sectors], replied: 0 }
+        let stage = Stage::format(place.sectors, place.clients, &place.shape);
+        Meter { stage, stores: vec![0; place.sectors], replied: 0 }
     }
 
     /// A transaction that fills the page with its number, which isn't 0: no
     /// slot holds these bytes already.
     fn rewrite(&mut self, page: u8, number: u64) {
-        self.make(&Call::of_bytes(Function::Begin, &[self.session, CLIENT, BUDGET]));
-        self.make(&Call::of_bytes(Function::Open, &[self.session, CLIENT, FILE, BUDGET]));
-        self.make(&stage::write_bytes(self.session, CLIENT, FILE, page, number.to_le_bytes().repeat(32)));
-        self.make(&Call::of_bytes(Function::Commit, &[self.session, CLIENT, BUDGET]));
+        self.make(&self.stage.call(Function::Begin, &[CLIENT, BUDGET]));
+        self.make(&self.stage.call(Function::Open, &[CLIENT, FILE, BUDGET]));
+        self.make(&stage::write_bytes(self.stage.session, CLIENT, FILE, page, number.to_le_bytes().repeat(32)));
+        self.make(&self.stage.call(Function::Commit, &[CLIENT, BUDGET]));
     }
 
     fn make(&mut self, call: &Call) {
-        let (reply, sectors) = stored(call, &mut self.volume);
+        let (reply, sectors) = stored(call, &mut self.stage.volume);
         sectors.iter().for_each(|&sector| self.stores[sector] += 1);
-        self.replied += reply >> 16;
-        self.session = (reply >> 8) as u8;
+        self.replied += reply.number();
+        self.stage.session = reply.session();
     }
 }

@@ -3,6 +3,7 @@
 use model::volume::MAX_LISTING;
 
 use crate::call::{Call, Function, Ready};
+use crate::reply::Reply;
 use crate::side::{Side, BOTH};
 use crate::stage::Stage;
 use crate::{paint, steps};
@@ -18,9 +19,9 @@ impl Scene {
         Scene { name, before: stage.volume.clone(), call }
     }
 
-    /// A call whose arguments are all bytes.
-    pub fn of_bytes(name: &'static str, stage: &Stage, function: Function, bytes: &[u8]) -> Scene {
-        Scene::new(name, stage, Call::of_bytes(function, bytes))
+    /// A call with the stage's session whose other arguments are bytes.
+    pub fn on_stage(name: &'static str, stage: &Stage, function: Function, bytes: &[u8]) -> Scene {
+        Scene::new(name, stage, stage.call(function, bytes))
     }
 
     /// The room for a listing.
@@ -33,13 +34,13 @@ impl Scene {
     }
 
     /// The reply. Both sides must give it, and leave the same bytes.
-    pub fn reply(&self) -> u64 {
+    pub fn reply(&self) -> Reply {
         let [library, rust] = BOTH.map(|side| {
             let (mut volume, mut text) = (self.before.clone(), Scene::text());
             let reply = side.make(&self.call, &mut volume, &mut text);
             (reply, volume, text)
         });
-        assert!(library == rust, "{}: the sides differ; replies {:x} and {:x}", self.name, library.0, rust.0);
+        assert!(library == rust, "{}: the sides differ; replies {:?} and {:?}", self.name, library.0, rust.0);
         library.0
     }
 

@@ -1,5 +1,7 @@
 //! Every call on a volume, done, cut and refused.
 
+use model::reply::RawSession;
+
 use crate::call::{Argument, Call, Function};
 use crate::place::Place;
 use crate::scene::Scene;
@@ -8,6 +10,7 @@ use crate::stage::{self, Stage, BUDGET};
 pub fn scenes(place: &Place) -> Vec<Scene> {
     let mut scenes = vec![format(place)];
     scenes.extend(starts(place));
+    scenes.extend(opens(place));
     scenes.extend(pages(place));
     scenes.extend(ends(place));
     scenes.extend(refusals(place));
@@ -15,28 +18,38 @@ pub fn scenes(place: &Place) -> Vec<Scene> {
 }
 
 fn format(place: &Place) -> Scene {
-    let junk = Stage { volume: vec![0xA5; 256 * place.sectors], session: 0 };
-    Scene::new("format", &junk, stage::format(place.clients, &place.shape))
+    Scene::new("format", &Stage::junk(place.sectors), stage::format(place.clients, &place.shape))
 }
 
-/// is_sound, begin and open.
+/// is_sound and begin.
 fn starts(place: &Place) -> Vec<Scene> {
     let last = place.clients;
     let written = place.written(1, &place.writes);
-    let session = written.session;
-    let but_first = place.written(2, &place.writes);
     let mut decided = written.clone();
     decided.decide(last);
-    let mut begun = decided.clone();
-    begun.begin(1);
-    let open_last = [begun.session, 1, place.files(), BUDGET];
     vec![
-        Scene::of_bytes("is_sound", &written, Function::IsSound, &[]),
-        Scene::of_bytes("begin", &written, Function::Begin, &[session, 1, BUDGET]),
-        Scene::of_bytes("begin, with a recovery", &decided, Function::Begin, &[0, last, BUDGET]),
-        Scene::of_bytes("open", &but_first, Function::Open, &[but_first.session, last, 1, BUDGET]),
-        Scene::of_bytes("open, held already", &written, Function::Open, &[session, last, 1, BUDGET]),
-        Scene::of_bytes("open, with a recovery", &begun, Function::Open, &open_last),
+        Scene::new("is_sound", &written, Call::new(Function::IsSound, vec![])),
+        Scene::on_stage("begin", &written, Function::Begin, &[1, BUDGET]),
+        Scene::on_stage("begin, with a recovery", &decided, Function::Begin, &[last, BUDGET]),
+        Scene::on_stage("begin, others read all", &place.read(), Function::Begin, &[last, BUDGET]),
+    ]
+}
+
+/// open and open_read.
+fn opens(place: &Place) -> Vec<Scene> {
+    let first = [place.clients, 1, BUDGET];
+    let written = place.written(1, &place.writes);
+    let but_first = place.written(2, &place.writes);
+    let mut begun = written.clone();
+    begun.decide(place.clients).begin(1);
+    let recovering = [1, place.files(), BUDGET];
+    vec![
+        Scene::on_stage("open", &but_first, Function::Open, &first),
+        Scene::on_stage("open, held already", &written, Function::Open, &first),
+        Scene::on_stage("open, with a recovery", &begun, Function::Open, &recovering),
+        Scene::on_stage("open_read", &but_first, Function::OpenRead, &first),
+        Scene::on_stage("open_read, held already", &written, Function::OpenRead, &first),
+        Scene::on_stage("open_read, with a recovery", &begun, Function::OpenRead, &recovering),
     ]
 }
 
@@ -46,14 +59,14 @@ fn pages(place: &Place) -> Vec<Scene> {
     let (&(file, page), before) = place.writes.split_last().expect("a write");
     let (old_file, old_page) = place.unwritten();
     let written = place.written(1, &place.writes);
-    let session = written.session;
-    let write = stage::write(session, last, file, page);
+    let write = stage::write(written.session, last, file, page);
     let unwritten = place.written(1, before);
     let mut in_last_slot = unwritten.clone();
     in_last_slot.volume[256 * place.last_header() + 8 + usize::from(page)] = place.last_slot();
     vec![
-        Scene::of_bytes("read, own write", &written, Function::Read, &[session, last, file, page]),
-        Scene::of_bytes("read, by the map", &written, Function::Read, &[session, last, old_file, old_page]),
+        Scene::on_stage("read, own write", &written, Function::Read, &[last, file, page]),
+        Scene::on_stage("read, by the map", &written, Function::Read, &[last, old_file, old_page]),
+        Scene::on_stage("read, by a reader", &place.read(), Function::Read, &[1, old_file, old_page]),
         Scene::new("write, new page", &unwritten, write.clone()),
         Scene::new("write, from slot 0 again", &in_last_slot, write.clone()),
         Scene::new("write, the same page again", &written, write),
@@ -64,28 +77,28 @@ fn pages(place: &Place) -> Vec<Scene> {
 fn ends(place: &Place) -> Vec<Scene> {
     let last = place.clients;
     let written = place.written(1, &place.writes);
-    let session = written.session;
     vec![
-        Scene::of_bytes("commit", &written, Function::Commit, &[session, last, BUDGET]),
-        Scene::of_bytes("commit, cut after a store", &written, Function::Commit, &[session, last, 1]),
-        Scene::of_bytes("abort", &written, Function::Abort, &[session, last, BUDGET]),
+        Scene::on_stage("commit", &written, Function::Commit, &[last, BUDGET]),
+        Scene::on_stage("commit, cut after a store", &written, Function::Commit, &[last, 1]),
+        Scene::on_stage("abort", &written, Function::Abort, &[last, BUDGET]),
         Scene::new("list", &written, Call::new(Function::List, vec![Argument::Text])),
     ]
 }
 
-/// The volume that isn't sound has a wrong last byte in the last header.
+/// The volume that isn't sound has a wrong last byte in the last header. The
+/// session that is none has the mark of a fifth client.
 fn refusals(place: &Place) -> Vec<Scene> {
     let last = place.clients;
     let written = place.written(1, &place.writes);
-    let session = written.session;
     let mut unsound = written.clone();
     unsound.volume[256 * place.last_header() + 255] = 1;
+    let no_session = Stage { session: RawSession::of_marks(16), ..written.clone() };
     let (file, page) = place.writes[0];
-    let short = stage::write_bytes(session, last, file, page, vec![0; 255]);
+    let short = stage::write_bytes(written.session, last, file, page, vec![0; 255]);
     vec![
-        Scene::of_bytes("begin, refused by 1", &unsound, Function::Begin, &[session, 1, BUDGET]),
-        Scene::of_bytes("begin, refused by 2", &written, Function::Begin, &[16, last, BUDGET]),
-        Scene::of_bytes("begin, refused by 4", &written, Function::Begin, &[session, last, BUDGET]),
+        Scene::on_stage("begin, refused by 1", &unsound, Function::Begin, &[1, BUDGET]),
+        Scene::on_stage("begin, refused by 2", &no_session, Function::Begin, &[last, BUDGET]),
+        Scene::on_stage("begin, refused by 4", &written, Function::Begin, &[last, BUDGET]),
         Scene::new("write, refused by 10", &written, short),
     ]
 }
@@ -96,7 +109,7 @@ mod tests {
     use crate::place::{largest, middle, small};
 
     /// What the name says of the reply: done, cut, refused, or a sector.
-    fn kind(scene: &Scene) -> u64 {
+    fn kind(scene: &Scene) -> u8 {
         match scene.call.function {
             Function::Read => 3,
             _ if scene.name.contains("refused") => 2,
@@ -105,13 +118,23 @@ mod tests {
         }
     }
 
+    /// A session without holds would be measured for one with many.
+    #[test]
+    fn readers_hold_all_files() {
+        let sessions = [small(), middle(), largest()].map(|place| place.read().session);
+        let [small, middle, largest] = sessions.map(|session| (session.active, session.reading));
+        assert_eq!(small, (1, [0b11, 0, 0, 0]));
+        assert_eq!(middle, (7, [0b1111, 0b1111, 0b1111, 0]));
+        assert_eq!(largest, (7, [0xFFFF, 0xFFFF, 0xFFFF, 0]));
+    }
+
     /// A call that is refused by mistake would be measured for a done one.
     #[test]
     fn replies_are_as_the_names_say() {
         for place in [small(), middle(), largest()] {
             for scene in scenes(&place) {
                 if !matches!(scene.call.function, Function::IsSound | Function::List) {
-                    assert_eq!(scene.reply() & 0xFF, kind(&scene), "{}, {}", place.name, scene.name);
+                    assert_eq!(scene.reply().kind(), kind(&scene), "{}, {}", place.name, scene.name);
                 }
             }
         }

@@ -4,6 +4,7 @@
 use model::capi;
 
 use crate::call::{Call, Function};
+use crate::reply::Reply;
 use crate::rust_side;
 
 #[derive(Clone, Copy, Debug, PartialEq, Eq)]
@@ -24,7 +25,7 @@ impl Side {
     }
 
     /// Makes the call.
-    pub fn make(self, call: &Call, volume: &mut [u8], text: &mut [u8]) -> u64 {
+    pub fn make(self, call: &Call, volume: &mut [u8], text: &mut [u8]) -> Reply {
         let ready = call.ready(self.entry(call.function), volume, text);
         // SAFETY: the arrays are lent for the time of the call.
         unsafe { ready.make() }
@@ -37,6 +38,7 @@ fn library_entry(function: Function) -> usize {
         Function::IsSound => capi::vol_is_sound as *const () as usize,
         Function::Begin => capi::vol_begin as *const () as usize,
         Function::Open => capi::vol_open as *const () as usize,
+        Function::OpenRead => capi::vol_open_read as *const () as usize,
         Function::Read => capi::vol_read as *const () as usize,
         Function::Write => capi::vol_write as *const () as usize,
         Function::Commit => capi::vol_commit as *const () as usize,
@@ -51,6 +53,7 @@ fn rust_entry(function: Function) -> usize {
         Function::IsSound => rust_side::is_sound as *const () as usize,
         Function::Begin => rust_side::begin as *const () as usize,
         Function::Open => rust_side::open as *const () as usize,
+        Function::OpenRead => rust_side::open_read as *const () as usize,
         Function::Read => rust_side::read as *const () as usize,
         Function::Write => rust_side::write as *const () as usize,
         Function::Commit => rust_side::commit as *const () as usize,

@@ -7,6 +7,7 @@ use std::ptr;
 use std::sync::atomic::{AtomicU64, AtomicUsize, Ordering::Relaxed};
 
 use crate::call::Ready;
+use crate::reply::Reply;
 use crate::trampoline::Stack;
 
 /// The structure of the C library on x86-64.
@@ -46,7 +47,7 @@ const ENDED: usize = 1;
 /// # Safety
 ///
 /// As for [`Ready::make`].
-pub unsafe fn count(ready: &Ready) -> (u64, u64) {
+pub unsafe fn count(ready: &Ready) -> (Reply, u64) {
     let action = Action { handler: on_trap, mask: [0; 16], flags: WITH_CONTEXT, restorer: 0 };
     let result = sigaction(TRAP, &action, ptr::null_mut());
     assert!(result == 0, "the trap can't be handled");
@@ -94,6 +95,7 @@ fn is_repeated(at: usize) -> bool {
 mod tests {
     use super::*;
     use crate::call::WORDS;
+    use crate::reply::Form;
     use std::arch::global_asm;
 
     global_asm!(
@@ -121,9 +123,10 @@ mod tests {
         let mut words = [0; WORDS];
         words[0] = room.as_mut_ptr() as u64;
         words[1] = room.len() as u64;
-        let ready = Ready { entry: entry as *const () as usize, words, count: 2 };
+        let ready = Ready { entry: entry as *const () as usize, words, count: 2, form: Form::Number };
         // SAFETY: the functions above touch the room only.
-        unsafe { count(&ready) }
+        let (reply, count) = unsafe { count(&ready) };
+        (reply.number(), count)
     }
 
     /// One test for both, since the count is kept in one place.

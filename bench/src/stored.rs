@@ -3,6 +3,7 @@
 //! next differ in one store, and the sector that differs is the one stored.
 
 use crate::call::Call;
+use crate::reply::Reply;
 use crate::side::Side;
 
 const SECTOR: usize = 256;
@@ -10,7 +11,7 @@ const SECTOR: usize = 256;
 /// Makes the call with the budget that it has, which must be enough. The
 /// reply, and the sectors in the order of their stores. Each store must change
 /// a byte, or it isn't seen.
-pub fn stored(call: &Call, volume: &mut [u8]) -> (u64, Vec<usize>) {
+pub fn stored(call: &Call, volume: &mut [u8]) -> (Reply, Vec<usize>) {
     let mut sectors = Vec::new();
     let (mut reply, mut bytes) = with_budget(call, volume, 0);
     assert!(bytes == volume, "{call:?} changes bytes without a store");
@@ -26,17 +27,17 @@ pub fn stored(call: &Call, volume: &mut [u8]) -> (u64, Vec<usize>) {
 
 /// The reply to the call with this budget, and the bytes that it leaves. It
 /// makes as many stores as the budget allows.
-fn with_budget(call: &Call, volume: &[u8], budget: usize) -> (u64, Vec<u8>) {
+fn with_budget(call: &Call, volume: &[u8], budget: usize) -> (Reply, Vec<u8>) {
     let mut bytes = volume.to_vec();
     let call = call.with_budget(u8::try_from(budget).expect("a budget"));
     let reply = Side::Library.make(&call, &mut bytes, &mut []);
-    assert!(reply & 0xFF <= 1, "{call:?} is refused: reply {reply:x}");
-    assert!(reply >> 16 == budget as u64, "{call:?} has another count of stores: reply {reply:x}");
+    assert!(reply.kind() <= 1, "{call:?} is refused: {reply:?}");
+    assert!(reply.number() == budget as u64, "{call:?} has another count of stores: {reply:?}");
     (reply, bytes)
 }
 
-fn is_cut(reply: u64) -> bool {
-    reply & 0xFF == 1
+fn is_cut(reply: Reply) -> bool {
+    reply.kind() == 1
 }
 
 /// The one sector in which the arrays differ.
@@ -54,6 +55,7 @@ mod tests {
     use crate::call::Function;
     use crate::place::small;
     use crate::stage::{self, Stage, BUDGET};
+    use model::reply::RawSession;
 
     /// The small volume, with the writes of E2 made by client 2: records in 1
     /// and 2, headers in 3 and 7, the pages in 6 and 9.
@@ -61,35 +63,43 @@ mod tests {
         small().written(1, &small().writes)
     }
 
-    fn stored_by(call: &Call, stage: &Stage) -> (u64, Vec<usize>) {
-        stored(call, &mut stage.volume.clone())
+    /// The session, and the sectors.
+    fn stored_by(call: &Call, stage: &Stage) -> (RawSession, Vec<usize>) {
+        let (reply, sectors) = stored(call, &mut stage.volume.clone());
+        assert_eq!((reply.kind(), reply.number()), (0, sectors.len() as u64));
+        (reply.session(), sectors)
     }
 
     fn of_client(function: Function, bytes: &[u8]) -> Call {
-        Call::of_bytes(function, &[&[written().session, 2], bytes, &[BUDGET]].concat())
+        written().call(function, &[&[2], bytes, &[BUDGET]].concat())
     }
+
+    const NEW: RawSession = RawSession::of_marks(0);
+    const OF_2: RawSession = RawSession::of_marks(2);
 
     #[test]
     fn sectors_are_found_in_the_order_of_their_stores() {
-        assert_eq!(stored_by(&of_client(Function::Commit, &[]), &written()), (0x4_00_00, vec![2, 3, 7, 2]));
-        assert_eq!(stored_by(&of_client(Function::Abort, &[]), &written()), (0x3_00_00, vec![3, 7, 2]));
+        assert_eq!(stored_by(&of_client(Function::Commit, &[]), &written()), (NEW, vec![2, 3, 7, 2]));
+        assert_eq!(stored_by(&of_client(Function::Abort, &[]), &written()), (NEW, vec![3, 7, 2]));
         let opened = small().written(1, &[]);
         let write = |file| stage::write(opened.session, 2, file, 0);
-        assert_eq!(stored_by(&write(1), &opened), (0x2_02_00, vec![6, 2]));
-        assert_eq!(stored_by(&write(2), &opened), (0x2_02_00, vec![9, 2]));
+        assert_eq!(stored_by(&write(1), &opened), (OF_2, vec![6, 2]));
+        assert_eq!(stored_by(&write(2), &opened), (OF_2, vec![9, 2]));
     }
 
     #[test]
     fn a_recovery_is_found_before_the_call_itself() {
         let mut decided = written();
         decided.decide(2);
-        let begin = Call::of_bytes(Function::Begin, &[0, 2, BUDGET]);
-        assert_eq!(stored_by(&begin, &decided), (0x4_02_00, vec![3, 7, 2, 2]));
+        assert_eq!(stored_by(&decided.call(Function::Begin, &[2, BUDGET]), &decided), (OF_2, vec![3, 7, 2, 2]));
+        decided.begin(1);
+        let reads = RawSession { active: 1, reading: [1, 0, 0, 0] };
+        assert_eq!(stored_by(&decided.call(Function::OpenRead, &[1, 1, BUDGET]), &decided), (reads, vec![3, 7, 2]));
     }
 
     #[test]
     fn a_call_without_a_store_has_no_sectors() {
-        assert_eq!(stored_by(&of_client(Function::Open, &[1]), &written()), (0x0_02_00, vec![]));
+        assert_eq!(stored_by(&of_client(Function::Open, &[1]), &written()), (OF_2, vec![]));
     }
 
     #[test]

@@ -4,6 +4,7 @@
 use std::arch::global_asm;
 
 use crate::call::Ready;
+use crate::reply::{Registers, Reply};
 
 global_asm!(
     ".globl bench_call_on",
@@ -20,6 +21,8 @@ global_asm!(
     "mov [rsp + 8], rdi",
     "mov rdi, [r10 + 64]",
     "mov [rsp + 16], rdi",
+    "mov rdi, [r10 + 72]",
+    "mov [rsp + 24], rdi",
     "mov rdi, [r10]",
     "mov rsi, [r10 + 8]",
     "mov rdx, [r10 + 16]",
@@ -39,12 +42,12 @@ global_asm!(
 );
 
 extern "C" {
-    fn bench_call_on(entry: usize, words: *const u64, top: *mut u8, flag: usize) -> u64;
+    fn bench_call_on(entry: usize, words: *const u64, top: *mut u8, flag: usize) -> Registers;
 }
 
 const TRAP_FLAG: usize = 0x100;
 
-/// Room above the call's frame, with the words that don't go in registers.
+/// Room above the call's frame, for the words that don't go in registers.
 pub const ABOVE: usize = 32;
 
 /// Bytes of a stack. They are aligned as calls ask for.
@@ -59,8 +62,9 @@ impl Stack {
     /// # Safety
     ///
     /// As for [`Ready::make`]; and the stack is deep enough.
-    pub unsafe fn call(&mut self, ready: &Ready, trapped: bool) -> u64 {
+    pub unsafe fn call(&mut self, ready: &Ready, trapped: bool) -> Reply {
         let flag = if trapped { TRAP_FLAG } else { 0 };
-        bench_call_on(ready.entry, ready.words.as_ptr(), self.0.as_mut_ptr_range().end, flag)
+        let registers = bench_call_on(ready.entry, ready.words.as_ptr(), self.0.as_mut_ptr_range().end, flag);
+        Reply::new(ready.form, registers)
     }
 }

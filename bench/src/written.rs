@@ -5,7 +5,7 @@ use std::process::Command;
 use crate::call::{Call, Function};
 use crate::place::small;
 use crate::side::Side;
-use crate::stage::{self, BUDGET};
+use crate::stage::{self, Stage, BUDGET};
 
 /// Measures SQLite, and prints a line for each setting: name, bytes.
 const SCRIPT: &str = include_str!("../sqlite.py");
@@ -27,21 +27,20 @@ pub fn print() {
 /// the library.
 fn stores() -> Vec<u64> {
     let place = small();
-    let mut volume = vec![0; 256 * place.sectors];
-    let mut session = 0;
-    let mut made = |call: &dyn Fn(u8) -> Call| {
-        let reply = Side::Library.make(&call(session), &mut volume, &mut []);
-        assert!(reply & 0xFF == 0, "a call of the transaction is not done: reply {reply:x}");
-        session = (reply >> 8) as u8;
-        reply >> 16
+    let mut stage = Stage::junk(place.sectors);
+    let mut made = |call: &dyn Fn(&Stage) -> Call| {
+        let reply = Side::Library.make(&call(&stage), &mut stage.volume, &mut []);
+        assert!(reply.kind() == 0, "a call of the transaction is not done: {reply:?}");
+        stage.session = reply.session();
+        reply.number()
     };
     made(&|_| stage::format(place.clients, &place.shape));
     vec![
-        made(&|session| Call::of_bytes(Function::Begin, &[session, 1, BUDGET])),
-        made(&|session| Call::of_bytes(Function::Open, &[session, 1, 1, BUDGET])),
-        made(&|session| Call::of_bytes(Function::Open, &[session, 1, 2, BUDGET])),
-        made(&|session| stage::write(session, 1, 1, 0)),
-        made(&|session| stage::write(session, 1, 2, 0)),
-        made(&|session| Call::of_bytes(Function::Commit, &[session, 1, BUDGET])),
+        made(&|stage| stage.call(Function::Begin, &[1, BUDGET])),
+        made(&|stage| stage.call(Function::Open, &[1, 1, BUDGET])),
+        made(&|stage| stage.call(Function::Open, &[1, 2, BUDGET])),
+        made(&|stage| stage::write(stage.session, 1, 1, 0)),
+        made(&|stage| stage::write(stage.session, 1, 2, 0)),
+        made(&|stage| stage.call(Function::Commit, &[1, BUDGET])),
     ]
 }

@@ -3,7 +3,6 @@
 #include <stdio.h>
 #include <string.h>
 
-#include "../../include/volume.h"
 #include "order.h"
 
 #define COUNT(list) ((int)(sizeof(list) / sizeof(list)[0]))
@@ -22,29 +21,25 @@ static uint8_t kept[LENGTH];
 // The header of file 16 on the large volume.
 enum { LAST_HEADER = 5 + 241 + 14 + 13 * 3 };
 
-static struct call begin(uint8_t session, uint8_t client) {
-    return (struct call){.what = BEGIN, .session = session, .client = client};
-}
-
-static struct call open(uint8_t session, uint8_t client, uint8_t file) {
-    return (struct call){.what = OPEN, .session = session, .client = client, .file = file};
-}
-
-static struct call write(uint8_t session, uint8_t client, uint8_t file, uint8_t page, uint8_t fill) {
-    return (struct call){WRITE, session, client, file, page, fill, 256};
-}
-
-static struct call commit(uint8_t session, uint8_t client) {
-    return (struct call){.what = COMMIT, .session = session, .client = client};
-}
-
-static struct call abort_(uint8_t session, uint8_t client) {
-    return (struct call){.what = ABORT, .session = session, .client = client};
+static void check(const char *kind, int right) {
+    if (right) return;
+    fprintf(stderr, "order: a call between those of the plan isn't %s\n", kind);
+    failed = 1;
 }
 
 static void format(size_t bytes, uint8_t clients, const uint8_t *shape, size_t count) {
     length = bytes;
-    if (VOL_KIND(vol_format(volume, length, clients, shape, count)) != VOL_DONE) failed = 1;
+    check("done", vol_format(volume, length, clients, shape, count).kind == VOL_DONE);
+}
+
+// Makes a call that isn't played.
+static void done(struct call call) {
+    check("done", make(call, 255).kind == VOL_DONE);
+}
+
+// A commit that is cut after its first store: the client's record is decided.
+static void decide(vol_session session, uint8_t client) {
+    check("cut", make(commit_by(session, client), 1).kind == VOL_CUT);
 }
 
 static void keep(void) {
@@ -56,86 +51,175 @@ static void back(void) {
 }
 
 // The small volume V: records in sectors 1 and 2, headers in 3 and 7, slots from 4 and from 8.
+static void format_v(void) {
+    static const uint8_t shape[4] = {2, 3, 1, 3};
+    format(2816, 2, shape, sizeof shape);
+}
 
 // Begin: record k open. Open: f's header with holder k. Write: the page, then the record with the entry; again: the
 // page.
 static void e2(void) {
-    static const uint8_t shape[4] = {2, 3, 1, 3};
-    format(2816, 2, shape, sizeof shape);
-    STORES("begin", begin(0, 1), {1, opened});
-    STORES("open", open(1, 1, 1), {3, held});
-    STORES("open", open(1, 1, 2), {7, held});
-    STORES("write", write(1, 1, 1, 0, 10), {6, new_page}, {1, entry});
-    STORES("write", write(1, 1, 2, 0, 20), {9, new_page}, {1, entry});
-    STORES("write again", write(1, 1, 1, 0, 30), {6, new_page});
+    const vol_session s = marked(1);
+    format_v();
+    STORES("begin", begin_by(marked(0), 1), {1, opened});
+    STORES("open", open_by(s, 1, 1), {3, held});
+    STORES("open", open_by(s, 1, 2), {7, held});
+    STORES("write", write_by(s, 1, 1, 0, 10), {6, new_page}, {1, entry});
+    STORES("write", write_by(s, 1, 2, 0, 20), {9, new_page}, {1, entry});
+    STORES("write again", write_by(s, 1, 1, 0, 30), {6, new_page});
     keep();
 }
 
 // The next transaction. Page 0 of file 1 is in its last slot, and goes to slot 0; that of file 2 goes from slot 1 to 2.
 static void pages_again(void) {
-    STORES("begin", begin(0, 1), {1, opened});
-    STORES("open", open(1, 1, 1), {3, held});
-    STORES("open", open(1, 1, 2), {7, held});
-    STORES("write, from slot 0 again", write(1, 1, 1, 0, 40), {4, new_page}, {1, entry});
-    STORES("write", write(1, 1, 2, 0, 50), {10, new_page}, {1, entry});
+    const vol_session s = marked(1);
+    STORES("begin", begin_by(marked(0), 1), {1, opened});
+    STORES("open", open_by(s, 1, 1), {3, held});
+    STORES("open", open_by(s, 1, 2), {7, held});
+    STORES("write, from slot 0 again", write_by(s, 1, 1, 0, 40), {4, new_page}, {1, entry});
+    STORES("write", write_by(s, 1, 2, 0, 50), {10, new_page}, {1, entry});
 }
 
 // Commit: record k decided; then recovery: each header naming k, rising, and last the record idle. Abort: recovery
 // alone.
 static void commit_and_abort(void) {
-    STORES("commit", commit(1, 1), {1, decided}, {3, redone}, {7, redone}, {1, idle});
+    STORES("commit", commit_by(marked(1), 1), {1, decided}, {3, redone}, {7, redone}, {1, idle});
     pages_again();
     back();
-    STORES("abort", abort_(1, 1), {3, freed}, {7, freed}, {1, idle});
+    STORES("abort", abort_by(marked(1), 1), {3, freed}, {7, freed}, {1, idle});
     back();
 }
 
-// Begin: recover k, then its record open. Open: recover the holder, then f's header with holder k.
+// Begin: recover k, then its record open. Open: recover the holder, then f's header with holder k; for reading, recover
+// the holder.
 static void recover_open_record(void) {
-    STORES("begin, undoing", begin(0, 1), {3, freed}, {7, freed}, {1, idle}, {1, opened});
+    const vol_session s = marked(2);
+    STORES("begin, undoing", begin_by(marked(0), 1), {3, freed}, {7, freed}, {1, idle}, {1, opened});
     back();
-    STORES("begin of another", begin(0, 2), {2, opened});
-    STORES("open, undoing", open(2, 2, 1), {3, freed}, {7, freed}, {1, idle}, {3, held});
+    STORES("begin of another", begin_by(marked(0), 2), {2, opened});
+    STORES("open, undoing", open_by(s, 2, 1), {3, freed}, {7, freed}, {1, idle}, {3, held});
+    back();
+    done(begin_by(marked(0), 2));
+    STORES("open_read, undoing", open_read_by(s, 2, 1), {3, freed}, {7, freed}, {1, idle});
     back();
 }
 
 // As before, with a commit cut after its first store: the record is decided.
 static void recover_decided_record(void) {
-    vol_commit(volume, length, 1, 1, 1);
+    const vol_session s = marked(2);
+    decide(marked(1), 1);
     keep();
-    STORES("begin, redoing", begin(0, 1), {3, redone}, {7, redone}, {1, idle}, {1, opened});
+    STORES("begin, redoing", begin_by(marked(0), 1), {3, redone}, {7, redone}, {1, idle}, {1, opened});
     back();
-    vol_begin(volume, length, 0, 2, 255);
-    STORES("open, redoing", open(2, 2, 2), {3, redone}, {7, redone}, {1, idle}, {7, held});
+    done(begin_by(marked(0), 2));
+    STORES("open, redoing", open_by(s, 2, 2), {3, redone}, {7, redone}, {1, idle}, {7, held});
+    back();
+    done(begin_by(marked(0), 2));
+    STORES("open_read, redoing", open_read_by(s, 2, 2), {3, redone}, {7, redone}, {1, idle});
 }
 
-// Reads, tests, listings and refused calls write nothing, and open of a file that the client holds neither.
+// Reads, tests and listings write nothing, and nor does an open, of either kind, of a file that the client holds.
 static void no_stores(void) {
-    stores_nothing("read", (struct call){READ, 1, 1, 1, 0, 0, 0}, VOL_SECTOR, 6);
+    struct call open_read = open_read_by(marked(1), 1, 1);
+    open_read.next = marked(1);
+    stores_nothing("read", read_by(marked(1), 1, 1, 0), VOL_SECTOR, 6);
     stores_nothing("is_sound", (struct call){.what = IS_SOUND}, VOL_DONE, 1);
     stores_nothing("list", (struct call){.what = LIST}, VOL_DONE, 1);
-    stores_nothing("open of a held file", open(1, 1, 1), VOL_DONE, 0);
-    stores_nothing("begin, refused", begin(16, 1), VOL_REFUSED, 2);
-    stores_nothing("begin, refused", begin(1, 3), VOL_REFUSED, 3);
-    stores_nothing("begin, refused", begin(1, 1), VOL_REFUSED, 4);
-    stores_nothing("commit, refused", commit(1, 2), VOL_REFUSED, 5);
-    stores_nothing("abort, refused", abort_(0, 1), VOL_REFUSED, 5);
-    stores_nothing("open, refused", open(1, 1, 3), VOL_REFUSED, 6);
-    stores_nothing("write, refused", write(1, 1, 1, 2, 40), VOL_REFUSED, 9);
-    stores_nothing("write, refused", (struct call){WRITE, 1, 1, 1, 1, 40, 255}, VOL_REFUSED, 10);
-    stores_nothing("write, refused", write(1, 1, 1, 1, 40), VOL_REFUSED, 11);
-    stores_nothing("read, refused", (struct call){READ, 0, 1, 1, 0, 0, 0}, VOL_REFUSED, 5);
+    stores_nothing("open of a held file", open_by(marked(1), 1, 1), VOL_DONE, 0);
+    stores_nothing("open_read of a held file", open_read, VOL_DONE, 0);
+}
+
+// Nor do refused calls.
+static void refused(void) {
+    const vol_session s = marked(1);
+    struct call write = write_by(s, 1, 1, 1, 40);
+    write.count = 255;
+    stores_nothing("begin, refused", begin_by(marked(16), 1), VOL_REFUSED, 2);
+    stores_nothing("begin, refused", begin_by(s, 3), VOL_REFUSED, 3);
+    stores_nothing("begin, refused", begin_by(s, 1), VOL_REFUSED, 4);
+    stores_nothing("commit, refused", commit_by(s, 2), VOL_REFUSED, 5);
+    stores_nothing("abort, refused", abort_by(marked(0), 1), VOL_REFUSED, 5);
+    stores_nothing("open, refused", open_by(s, 1, 3), VOL_REFUSED, 6);
+    stores_nothing("open_read, refused", open_read_by(reading(s, 2, 1), 1, 1), VOL_REFUSED, 2);
+    stores_nothing("open_read, refused", open_read_by(reading(s, 1, 2), 1, 1), VOL_REFUSED, 2);
+    stores_nothing("open_read, refused", open_read_by(s, 3, 1), VOL_REFUSED, 3);
+    stores_nothing("open_read, refused", open_read_by(s, 2, 1), VOL_REFUSED, 5);
+    stores_nothing("open_read, refused", open_read_by(s, 1, 3), VOL_REFUSED, 6);
+    stores_nothing("write, refused", write_by(s, 1, 1, 2, 40), VOL_REFUSED, 9);
+    stores_nothing("write, refused", write, VOL_REFUSED, 10);
+    stores_nothing("write, refused", write_by(s, 1, 1, 1, 40), VOL_REFUSED, 11);
+    stores_nothing("read, refused", read_by(marked(0), 1, 1, 0), VOL_REFUSED, 5);
     stores_nothing("format, refused", (struct call){.what = FORMAT, .fill = 1, .count = 300}, VOL_REFUSED, 13);
     stores_nothing("format, refused", (struct call){.what = FORMAT, .fill = 0, .count = 2816}, VOL_REFUSED, 14);
     stores_nothing("format, refused", (struct call){.what = FORMAT, .fill = 1, .count = 512}, VOL_REFUSED, 15);
-    vol_begin(volume, length, 1, 2, 255);
-    stores_nothing("open, refused", open(3, 2, 1), VOL_REFUSED, 7);
-    stores_nothing("write, refused", write(3, 2, 1, 0, 40), VOL_REFUSED, 8);
+}
+
+static void refused_to_another(void) {
+    const vol_session s = marked(3);
+    done(begin_by(marked(1), 2));
+    stores_nothing("open, refused", open_by(s, 2, 1), VOL_REFUSED, 7);
+    stores_nothing("open_read, refused", open_read_by(s, 2, 1), VOL_REFUSED, 7);
+    stores_nothing("write, refused", write_by(s, 2, 1, 0, 40), VOL_REFUSED, 8);
     volume[0] = 0;
-    stores_nothing("commit, refused", commit(1, 1), VOL_REFUSED, 1);
+    stores_nothing("commit, refused", commit_by(marked(1), 1), VOL_REFUSED, 1);
+    stores_nothing("open_read, refused", open_read_by(marked(1), 1, 1), VOL_REFUSED, 1);
     stores_nothing("is_sound, no", (struct call){.what = IS_SOUND}, VOL_DONE, 0);
     stores_nothing("list, refused", (struct call){.what = LIST}, VOL_DONE, 0);
     back();
+}
+
+// Both clients have begun and hold nothing. A reading hold is in the session alone, and a call that is refused beside a
+// reader stores nothing.
+static void readers(void) {
+    const vol_session both = marked(3), one = reading(both, 1, 1), two = reading(one, 2, 1);
+    format_v();
+    done(begin_by(marked(0), 1));
+    done(begin_by(marked(1), 2));
+    keep();
+    stores_nothing("open_read", open_read_by(both, 1, 1), VOL_DONE, 0);
+    stores_nothing("open_read beside a reader", open_read_by(one, 2, 1), VOL_DONE, 0);
+    stores_nothing("open_read of a file it reads", open_read_by(two, 2, 1), VOL_DONE, 0);
+    stores_nothing("read by a reader", read_by(two, 2, 1, 1), VOL_SECTOR, 5);
+    stores_nothing("open, refused", open_by(one, 2, 1), VOL_REFUSED, 7);
+    stores_nothing("open, refused", open_by(two, 1, 1), VOL_REFUSED, 7);
+    stores_nothing("write, refused", write_by(two, 1, 1, 0, 40), VOL_REFUSED, 16);
+    stores_nothing("write, refused", write_by(two, 1, 1, 2, 40), VOL_REFUSED, 16);
+    stores_nothing("write, refused", write_by(one, 2, 1, 0, 40), VOL_REFUSED, 8);
+    stores_nothing("read, refused", read_by(one, 2, 1, 0), VOL_REFUSED, 8);
+}
+
+// The commit of a client that only reads: its record decided, and idle. Its abort: the record idle.
+static void readers_end(void) {
+    const vol_session both_read = reading(reading(marked(3), 1, 1), 2, 1);
+    STORES("commit of a reader", commit_by(both_read, 1), {1, decided}, {1, idle});
+    back();
+    STORES("abort of a reader", abort_by(both_read, 2), {2, idle});
+    back();
+}
+
+// The client that alone reads a file opens it. Both read file 2, whose header gets no store.
+static void reader_writes(void) {
+    const vol_session s = reading(reading(marked(3), 1, 2), 2, 2);
+    STORES("open by the only reader", open_by(reading(s, 1, 1), 1, 1), {3, held});
+    stores_nothing("open_read, refused", open_read_by(s, 2, 1), VOL_REFUSED, 7);
+    STORES("write beside a reader", write_by(s, 1, 1, 0, 60), {6, new_page}, {1, entry});
+    keep();
+    STORES("abort beside a reader", abort_by(s, 1), {3, freed}, {1, idle});
+    back();
+    STORES("commit beside a reader", commit_by(s, 1), {1, decided}, {3, redone}, {1, idle});
+    back();
+}
+
+// Client 1's transaction was interrupted, and client 2 reads file 2 already. A cut ends that hold too.
+static void reader_recovers(void) {
+    const vol_session s = reading(marked(2), 2, 2);
+    done(begin_by(marked(0), 2));
+    keep();
+    STORES("open_read by a reader, undoing", open_read_by(s, 2, 1), {3, freed}, {1, idle});
+    back();
+    STORES("open by a reader, undoing", open_by(s, 2, 1), {3, freed}, {1, idle}, {3, held});
+    back();
+    STORES("begin beside a reader, undoing", begin_by(s, 1), {3, freed}, {1, idle}, {1, opened});
 }
 
 // A large volume: client 4 holds sixteen files and has written a page of each. Headers from the second on are above
@@ -159,42 +243,50 @@ static void over_all(const char *name, struct call call, struct store first, con
 }
 
 static void sixteen_files(void) {
+    const vol_session s = marked(8);
     format(LENGTH, 4, large_shape, sizeof large_shape);
-    vol_begin(volume, length, 0, 4, 255);
+    done(begin_by(marked(0), 4));
     for (uint8_t f = 1; f <= 16; f++) {
-        uint8_t bytes[256] = {f};
-        vol_open(volume, length, 8, 4, f, 255);
-        vol_write(volume, length, 8, 4, f, 0, bytes, sizeof bytes, 255);
+        done(open_by(s, 4, f));
+        done(write_by(s, 4, f, 0, f));
     }
     keep();
 }
 
 static void full_record(void) {
-    uint8_t bytes[256] = {0};
-    for (uint8_t page = 1; page <= 46; page++) vol_write(volume, length, 8, 4, 1, page, bytes, sizeof bytes, 255);
-    stores_nothing("write, refused", write(8, 4, 1, 47, 40), VOL_REFUSED, 12);
+    const vol_session s = marked(8);
+    for (uint8_t page = 1; page <= 46; page++) done(write_by(s, 4, 1, page, 0));
+    stores_nothing("write, refused", write_by(s, 4, 1, 47, 40), VOL_REFUSED, 12);
+    back();
+}
+
+static const struct store none = {0, NULL}, is_idle = {4, idle}, is_open = {4, opened}, is_held = {LAST_HEADER, held};
+
+// The volume is as kept; client 4's transaction was interrupted. Each header is stored by this name.
+static void recover_all(const char *begin, const char *open, const char *open_read, const char *header) {
+    const vol_session s = marked(1);
+    over_all(begin, begin_by(marked(0), 4), none, header, is_idle, is_open);
+    back();
+    done(begin_by(marked(0), 1));
+    over_all(open, open_by(s, 1, 16), none, header, is_idle, is_held);
+    back();
+    done(begin_by(marked(0), 1));
+    over_all(open_read, open_read_by(s, 1, 16), none, header, is_idle, none);
     back();
 }
 
 static void large(void) {
-    const struct store none = {0, NULL}, is_idle = {4, idle}, is_open = {4, opened}, is_held = {LAST_HEADER, held};
+    const vol_session s = marked(8);
     sixteen_files();
     full_record();
-    over_all("commit of 16 files", commit(8, 4), (struct store){4, decided}, redone, is_idle, none);
+    over_all("commit of 16 files", commit_by(s, 4), (struct store){4, decided}, redone, is_idle, none);
     back();
-    over_all("abort of 16 files", abort_(8, 4), none, freed, is_idle, none);
+    over_all("abort of 16 files", abort_by(s, 4), none, freed, is_idle, none);
     back();
-    over_all("begin, undoing 16 files", begin(0, 4), none, freed, is_idle, is_open);
-    back();
-    vol_begin(volume, length, 0, 1, 255);
-    over_all("open, undoing 16 files", open(1, 1, 16), none, freed, is_idle, is_held);
-    back();
-    vol_commit(volume, length, 8, 4, 1);
+    recover_all("begin, undoing 16 files", "open, undoing 16 files", "open_read, undoing 16 files", freed);
+    decide(s, 4);
     keep();
-    over_all("begin, redoing 16 files", begin(0, 4), none, redone, is_idle, is_open);
-    back();
-    vol_begin(volume, length, 0, 1, 255);
-    over_all("open, redoing 16 files", open(1, 1, 16), none, redone, is_idle, is_held);
+    recover_all("begin, redoing 16 files", "open, redoing 16 files", "open_read, redoing 16 files", redone);
 }
 
 // With a second word, small, the large volume is left out.
@@ -202,9 +294,15 @@ int main(int count, char **words) {
     set_up(count, words);
     e2();
     no_stores();
+    refused();
+    refused_to_another();
     commit_and_abort();
     recover_open_record();
     recover_decided_record();
+    readers();
+    readers_end();
+    reader_writes();
+    reader_recovers();
     if (count < 3) large();
     sum_up();
     return failed;

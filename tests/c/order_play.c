@@ -3,7 +3,6 @@
 #include <stdio.h>
 #include <string.h>
 
-#include "../../include/volume.h"
 #include "order.h"
 
 static int planning;
@@ -17,11 +16,14 @@ static uint8_t changed[MOST_STORES][256];
 // The call between the marks, with its line of the plan.
 static void play(const char *name, struct call c, int budget, unsigned kind, unsigned number) {
     marks[0] = 1;
-    uint64_t reply = make(c, (uint8_t)budget);
+    vol_reply reply = make(c, (uint8_t)budget);
     marks[1] = 1;
     if (planning) printf("call %s, budget %d\n", name, budget);
-    if (VOL_KIND(reply) == kind && VOL_NUMBER(reply) == number) return;
-    fprintf(stderr, "order: %s, budget %d: reply %llx\n", name, budget, (unsigned long long)reply);
+    if (is_reply(reply, c, kind, number)) return;
+    fprintf(stderr, "order: %s, budget %d: reply %u %u, session %u", name, budget, reply.kind, reply.number,
+            reply.session.active);
+    for (int k = 0; k < 4; k++) fprintf(stderr, " %x", reply.session.reading[k]);
+    fprintf(stderr, "\n");
     failed = 1;
 }
 
@@ -82,6 +84,7 @@ void stores(const char *name, struct call call, const struct store *list, int co
 
 void stores_nothing(const char *name, struct call call, unsigned kind, unsigned number) {
     if (planning) memcpy(before, volume, length);
+    play(name, call, 0, kind, number);
     play(name, call, 255, kind, number);
     if (!planning || memcmp(volume, before, length) == 0) return;
     fprintf(stderr, "order: %s: the volume has changed\n", name);

@@ -10,7 +10,6 @@
 #include <sys/wait.h>
 #include <unistd.h>
 
-#include "../../include/volume.h"
 #include "order.h"
 
 static uint8_t start[LENGTH];
@@ -88,8 +87,8 @@ void stores(const char *name, struct call call, const struct store *list, int co
 }
 
 void stores_nothing(const char *name, struct call call, unsigned kind, unsigned number) {
-    uint64_t reply = make(call, 255);
-    if (VOL_KIND(reply) != kind || VOL_NUMBER(reply) != number) stop(name, "another reply", 0);
+    if (!is_reply(make(call, 0), call, kind, number)) stop(name, "another reply", 0);
+    if (!is_reply(make(call, 255), call, kind, number)) stop(name, "another reply", 0);
     step_through(name, call, NULL, 0);
 }
 

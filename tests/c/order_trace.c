@@ -168,14 +168,14 @@ static void read_trace_line(const char *line) {
 }
 
 static void print_row(const struct seen *seen) {
-    printf("order: %-26s %6d %4d to %3d %6d   ", seen->name, seen->stores, seen->least, seen->most, seen->times);
+    printf("order: %-27s %6d %4d to %3d %6d   ", seen->name, seen->stores, seen->least, seen->most, seen->times);
     for (int i = 0; i < 32; i++)
         if (seen->widths >> i & 1) printf(" %d", 1 << i);
     printf("\n");
 }
 
 static void print_rows(void) {
-    printf("order: %-26s %6s %11s %6s    widths\n", "store", "stores", "its bytes", "times");
+    printf("order: %-27s %6s %11s %6s    widths\n", "store", "stores", "its bytes", "times");
     for (int i = 0; i < name_count; i++) print_row(&names[i]);
 }
 
