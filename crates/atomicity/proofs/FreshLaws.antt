@@ -101,7 +101,7 @@ module _ {a : View} {k f p : ℕ} (h : Fresh a k f p) where
   -- ------------------------------------------------------------------ open
   pub open-passed : sessionFits (begun a k) (oneActive k) ≡ true → first (tests true (begun a k) (oneActive k) (openFile k f)) ≡ 0
   unfolding first tests
-  open-passed fits = rw (fits, client, active, file, unheld, none-read (oneActive k) k f unread)
+  open-passed fits = rw (fits, client, active, file, unheld, none-read (oneActive k) k f (λ j lo hi. unread j))
 
   pub open-made : plan (begun a k) (oneActive k) (openFile k f) ≡ setHeader f (heldHeader a k f) ∷ []
   unfolding plan openPlan

@@ -11,7 +11,7 @@ use native.Mathlib.Omega.{arith}
 use borrow.Author.Tests.{ne-eqb, ltb-true, ltb-false}
 use lib.Bits.{bitAnd, bitOr, and-mask, and-step, and-high, or-shr, or-mod}
 use lib.Dec.{eqb, ltb}
-use lib.Pow.{pow-add, pow-pos, pow-lt, shl-shr, shl-exact, high}
+use lib.Pow.{pow-add, pow-pos, pow-lt, shl-shr, shl-exact, shr-shr, shr-le, high}
 use Rattle.lists.proofs.CaseLaws.{by-test, by-equal}
 use Rattle.lists.proofs.SearchLaws.{or-true}
 use Rattle.lists.proofs.TestLaws.{not-and, or-zero}
@@ -69,6 +69,14 @@ bit-same w k = bit-or w (2 ^ k) k ∙ or-true (hasBit w k) _ (bit-is (2 ^ k) k �
 
 pub bit-other : (w i k : ℕ) → i ≢ k → hasBit (bitOr w (2 ^ i)) k ≡ hasBit w k
 bit-other w i k n = bit-or w (2 ^ i) k ∙ rw (bit-is (2 ^ i) k, other-bit i k n) (or-false (hasBit w k))
+
+-- A word that is 0 without its i lowest bits has no bit from i on.
+pub none-above : (w i j : ℕ) → w / 2 ^ i ≡ 0 → i ≤ j → hasBit w j ≡ false
+none-above w i j z h =
+    let m : j ≡ i + (j - i) = omega arith in
+    let le : 0 / 2 ^ (j - i) ≤ 0 = shr-le 0 (j - i) in
+    let q : w / 2 ^ j ≡ 0 = ap (λ (x : ℕ). w / 2 ^ x) m ∙ sym (shr-shr w i (j - i)) ∙ rw z (omega (arith, le)) in
+    bit-is w j ∙ rw q
 
 -- In a word of w bits 1 is shifted to bit i, and none is lost.
 pub one-shifted : (i w : ℕ) → i < w → 1 * 2 ^ i % 2 ^ w ≡ 2 ^ i

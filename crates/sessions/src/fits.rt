@@ -5,7 +5,7 @@ use interface::Session;
 use sector::State;
 ghost use mathlib.Core.Path.{_≡_};
 ghost use mathlib.Core.Bool.{not, _&&_, _||_};
-ghost use Prim.Native.Nat.{_≤_};
+ghost use Prim.Native.Nat.{_^_, _≤_, _<_};
 ghost use Rattle.lists.specs.Lists.{every};
 ghost use Rattle.sector.specs.Contents.{Table, Entry, Record};
 ghost use Rattle.volume.specs.Places.{IsClient};
@@ -81,32 +81,38 @@ fn read_fits(v: &[u8], s: Session, k: u8, f: u8) -> bool
     true
 }
 
-// Whether client k may hold for reading every file that it so holds.
+// A word of holds as a number.
+fn wide(word: u16) -> usize
+    ensures { λ r. ⌜ (r ≡ word) × (r < 2 ^ 16) ⌝ }
+{
+    word as usize
+}
+
+// Whether client k may hold for reading every file that it so holds. `left` are the bits of the files from f on.
 fn reads_fit(v: &[u8], s: Session, k: u8) -> bool
     requires { ⌜ WellFormed (now v) × (1 ≤ k) × (k ≤ 4) ⌝ }
     ensures { λ r. ⌜ r ≡ readsFit (view (now (v .entry))) s k ⌝ }
 {
+    let at = sector::wide(k) - 1;
+    let mut left = wide(s.reading[at]);
     let mut f: u8 = 1;
-    while f < 17 {
+    while left != 0 {
         if !read_fits(v, s, k, f) {
             return false;
         }
+        left = left >> 1;
         f += 1;
     }
     true
 }
 
-// Whether client k's mark and its reading holds fit. Most clients have no hold, so their word is looked at first.
+// Whether client k's mark and its reading holds fit.
 fn client_fits(v: &[u8], s: Session, k: u8) -> bool
     requires { ⌜ WellFormed (now v) × (1 ≤ k) × (k ≤ 4) ⌝ }
     ensures { λ r. ⌜ r ≡ ((not (isActive s k) || markFits (view (now (v .entry))) k) && readsFit (view (now (v .entry))) s k) ⌝ }
 {
     if !marked_fits(v, s, k) {
         return false;
-    }
-    let at = sector::wide(k) - 1;
-    if s.reading[at] == 0 {
-        return true;
     }
     reads_fit(v, s, k)
 }

@@ -5,7 +5,8 @@ ghost use mathlib.Core.Path.{_≡_};
 ghost use mathlib.Core.Bool.{false, not, _&&_};
 ghost use Prim.Native.Nat.{_-_, _^_, _≤_};
 ghost use lib.Dec.{eqb};
-ghost use Rattle.rules.specs.Sessions.{setActive, isReading, withReading, withoutReading, withoutReader, isReadByOther};
+ghost use Rattle.lists.specs.Lists.{any, from};
+ghost use Rattle.rules.specs.Sessions.{setActive, filesRead, isReading, withReading, withoutReading, withoutReader, isReadByOther};
 
 // The word that has only the bit of file f.
 fn mask(f: u8) -> u16
@@ -37,11 +38,22 @@ pub fn with_reading(mut s: Session, k: u8, f: u8) -> Session
     s
 }
 
+// Whether a client holds a file for reading. Most sessions have no such hold, so this is looked at first.
+fn has_reader(s: Session) -> bool
+    ensures { λ r. ⌜ r ≡ any (λ k. not (eqb (filesRead s k) 0)) (from 1 4) ⌝ }
+{
+    let last = (s.reading[2] != 0) | (s.reading[3] != 0);
+    (s.reading[0] != 0) | ((s.reading[1] != 0) | last)
+}
+
 // The session without it.
 pub fn without_reading(mut s: Session, k: u8, f: u8) -> Session
     requires { ⌜ (1 ≤ k) × (k ≤ 4) × (1 ≤ f) × (f ≤ 16) ⌝ }
     ensures { λ r. ⌜ r ≡ withoutReading s k f ⌝ }
 {
+    if !has_reader(s) {
+        return s;
+    }
     let at = sector::wide(k) - 1;
     let m = mask(f);
     let word = s.reading[at];
@@ -80,6 +92,9 @@ pub fn is_read_by_other(s: Session, k: u8, f: u8) -> bool
     requires { ⌜ (1 ≤ f) × (f ≤ 16) ⌝ }
     ensures { λ r. ⌜ r ≡ isReadByOther s k f ⌝ }
 {
+    if !has_reader(s) {
+        return false;
+    }
     let last = reads_beside(s, 3, k, f) | reads_beside(s, 4, k, f);
     reads_beside(s, 1, k, f) | (reads_beside(s, 2, k, f) | last)
 }
