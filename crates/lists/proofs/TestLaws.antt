@@ -4,10 +4,10 @@
 use mathlib.Core.Path.{_≡_, refl, sym, ap, _∙_}
 use mathlib.Core.Bool.{Bool, true, false, not, _&&_, _||_, and-true, and-false, or-false, true≢false}
 use mathlib.Core.List.{List, [], _∷_}
-use Prim.Native.Nat.{ℕ, zero, suc, _+_, _-_, _<_, _≤_}
+use Prim.Native.Nat.{ℕ, zero, suc, _+_, _*_, _-_, _<_, _≤_}
 use native.Mathlib.Numerals.{add-one}
 use native.Mathlib.Omega.{arith}
-use borrow.Author.Tests.{eqb-true, eq-eqb, ltb-true, lt-ltb}
+use borrow.Author.Tests.{eqb-true, eq-eqb, ne-eqb, ltb-true, lt-ltb}
 use lib.Bits.{bitOr, or-add-and, and-le-l, and-le-r}
 use lib.Dec.{eqb, ltb}
 use lib.ListN.{length, getD, drop, drop-of-length-le}
@@ -55,6 +55,14 @@ or-zero a b = iff _ _ to back
         let za : a ≡ 0 = eqb-true a 0 (and-left (eqb a 0) _ e) in
         let zb : b ≡ 0 = eqb-true b 0 (and-right (eqb a 0) _ e) in
         rw (za, zb)
+
+-- A sum is zero only where both numbers are; the second may be multiplied by n.
+pub sum-zero : (a b n : ℕ) → 0 < n → eqb (a + n * b) 0 ≡ (eqb a 0 && eqb b 0)
+sum-zero zero zero n h = let z : 0 + n * 0 ≡ 0 = omega arith in rw z
+sum-zero zero (suc b) n h =
+    let z : n * suc b ≡ n + n * b = omega arith in
+    ne-eqb (0 + n * suc b) 0 (λ q. omega (arith, z, q, h)) ∙ sym (ne-eqb (suc b) 0 (λ q. omega (arith, q)))
+sum-zero (suc a) b n h = ne-eqb (suc a + n * b) 0 (λ q. omega (arith, q)) ∙ sym (rw (ne-eqb (suc a) 0 (λ q. omega (arith, q))) refl)
 
 -- ------------------------------------------------------------------ a list of tests
 -- Test i fails.

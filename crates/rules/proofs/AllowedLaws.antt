@@ -21,7 +21,7 @@ use Rattle.volume.specs.Views.{View}
 use Rattle.volume.specs.Lawful.{lawful}
 use Rattle.volume.proofs.PlaceLaws.{IsFile, client-of, file-of}
 use Rattle.volume.proofs.LawfulLaws.{RecordFacts, HeaderFacts, Lawful, lawful-facts, record-facts, entry-facts}
-use Rattle.rules.specs.Sessions.{holds, holdsEither, isActive, isReading, isReadByOther, markFits, holdFits, readsFit, sessionFits}
+use Rattle.rules.specs.Sessions.{holds, holdsEither, isActive, isReading, isReadByOther, markFits, holdFits, marksFit, readsFit, holdsFit, sessionFits}
 use Rattle.rules.specs.Recovery.{isDecided}
 use Rattle.rules.specs.Plans.{Call, begin, openFile, openRead, write, commit, abort, Query, readPage, entryFor, slotFor, freeSlots, heldByOrphan}
 use Rattle.rules.specs.Refusals.{heldByOther, isNewPage, pageMissing, readOnly, tests, queryTests}
@@ -83,30 +83,31 @@ unfolding sessionFits markFits readsFit holdFits
 ready a s l fits = record {
   laws = lawful-facts a l;
   runs = λ j w.
-      let e : markFits a j ≡ true = or-right (not (isActive s j)) (markFits a j) (and-left _ _ (client j (w .low) (w .high))) (rw (w .on)) in
+      let e : markFits a j ≡ true = or-right (not (isActive s j)) (markFits a j)
+      (every-from (λ k. not (isActive s k) || markFits a k) 4 1 (and-left (marksFit a s) _ fits) j (w .low) (omega (arith, w .high))) (rw (w .on)) in
       record { client = leb-true _ _ (all-at _ 0 e); state = eqb-true _ _ (all-at _ 1 e); mine = all-at _ 2 e };
   reads = λ j f x.
       let e : holdFits a s j f ≡ true = or-right (not (isReading s j f)) (holdFits a s j f)
-      (every-from (λ g. not (isReading s j g) || holdFits a s j g) 16 1 (and-right (not (isActive s j) || markFits a j) _ (client j (x .low) (x .high))) f (x .first) (omega (arith, x .last)))
+      (every-from (λ g. not (isReading s j g) || holdFits a s j g) 16 1
+      (every-from (readsFit a s) 4 1 (and-right (marksFit a s) _ fits) j (x .low) (omega (arith, x .high))) f (x .first) (omega (arith, x .last)))
       (rw (x .on)) in
       record { active = all-at _ 0 e; file = leb-true _ _ (all-at _ 1 e); free = eqb-true _ _ (all-at _ 2 e) };
 }
-  where
-    client : (j : ℕ) → 1 ≤ j → j ≤ 4 → ((not (isActive s j) || markFits a j) && readsFit a s j) ≡ true
-    client j lo hi = every-from (λ k. (not (isActive s k) || markFits a k) && readsFit a s k) 4 1 fits j lo (omega arith)
 
 -- A session fits whose marked clients have a transaction running, and whose reading holds have what they rely on.
 pub running-fits : (a : View) (s : Session) → ((j : ℕ) → Active s j → Running a j) → ((j f : ℕ) → Reader s j f → Shared a s j f)
     → sessionFits a s ≡ true
 unfolding sessionFits markFits readsFit holdFits
-running-fits a s runs reads = every-all _ 4 1
-    (λ j lo hi. and-both _ _ (by-test (isActive s j)
+running-fits a s runs reads = and-both (marksFit a s) (holdsFit a s)
+    (every-all _ 4 1
+    (λ j lo hi. by-test (isActive s j)
     (λ on.
     let r : Running a j = runs j (record { low = lo; high = omega arith; on = on }) in
     or-true (not (isActive s j)) (markFits a j)
     (all-cons _ (le-leb _ _ (r .client)) (all-cons _ (eq-eqb _ _ (r .state)) (all-cons _ (r .mine) all-nil))))
-    (λ off. rw off))
-    (every-all _ 16 1
+    (λ off. rw off)))
+    (every-all _ 4 1
+    (λ j lo hi. every-all _ 16 1
     (λ f first last. by-test (isReading s j f)
     (λ on.
     let r : Shared a s j f = reads j f (record { low = lo; high = omega arith; first = first; last = omega arith; on = on }) in

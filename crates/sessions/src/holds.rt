@@ -3,7 +3,7 @@ use crate::marks::set_active;
 use interface::Session;
 ghost use mathlib.Core.Path.{_≡_};
 ghost use mathlib.Core.Bool.{false, not, _&&_};
-ghost use Prim.Native.Nat.{_-_, _^_, _≤_};
+ghost use Prim.Native.Nat.{_-_, _^_, _≤_, _<_};
 ghost use lib.Dec.{eqb};
 ghost use Rattle.lists.specs.Lists.{any, from};
 ghost use Rattle.rules.specs.Sessions.{setActive, filesRead, isReading, withReading, withoutReading, withoutReader, isReadByOther};
@@ -38,22 +38,38 @@ pub fn with_reading(mut s: Session, k: u8, f: u8) -> Session
     s
 }
 
-// Whether a client holds a file for reading. Most sessions have no such hold, so this is looked at first.
-fn has_reader(s: Session) -> bool
+// A word of holds as a number.
+pub fn wide(word: u16) -> usize
+    ensures { λ r. ⌜ (r ≡ word) × (r < 2 ^ 16) ⌝ }
+{
+    word as usize
+}
+
+// Whether a client holds a file for reading. Most sessions have no such hold, so this is looked at first: the four words
+// as one number.
+pub fn has_reader(s: Session) -> bool
     ensures { λ r. ⌜ r ≡ any (λ k. not (eqb (filesRead s k) 0)) (from 1 4) ⌝ }
 {
-    let last = (s.reading[2] != 0) | (s.reading[3] != 0);
-    (s.reading[0] != 0) | ((s.reading[1] != 0) | last)
+    let low = wide(s.reading[0]) + 65536 * wide(s.reading[1]);
+    let high = wide(s.reading[2]) + 65536 * wide(s.reading[3]);
+    low + 4294967296 * high != 0
 }
 
 // The session without it.
-pub fn without_reading(mut s: Session, k: u8, f: u8) -> Session
+pub fn without_reading(s: Session, k: u8, f: u8) -> Session
     requires { ⌜ (1 ≤ k) × (k ≤ 4) × (1 ≤ f) × (f ≤ 16) ⌝ }
     ensures { λ r. ⌜ r ≡ withoutReading s k f ⌝ }
 {
     if !has_reader(s) {
         return s;
     }
+    cleared(s, k, f)
+}
+
+fn cleared(mut s: Session, k: u8, f: u8) -> Session
+    requires { ⌜ (1 ≤ k) × (k ≤ 4) × (1 ≤ f) × (f ≤ 16) ⌝ }
+    ensures { λ r. ⌜ r ≡ withoutReading s k f ⌝ }
+{
     let at = sector::wide(k) - 1;
     let m = mask(f);
     let word = s.reading[at];

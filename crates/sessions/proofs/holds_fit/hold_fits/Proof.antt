@@ -5,8 +5,8 @@ use borrow.Author.Needs.{needs}
 use borrow.Author.Tests.{not-true, not-false, lt-leb, le-leb}
 use Rattle.lists.proofs.TestLaws.{all-no, all-last, _then_, final}
 use Rattle.rules.specs.Sessions.{holdFits}
-use Rattle.sessions.proofs.fits.hold_fits.Statement.{statement}
-use Rattle.sessions.proofs.fits.hold_fits.Tie as tie
+use Rattle.sessions.proofs.holds_fit.hold_fits.Statement.{statement}
+use Rattle.sessions.proofs.holds_fit.hold_fits.Tie as tie
 
 returns : tie.Need-returns
 unfolding holdFits

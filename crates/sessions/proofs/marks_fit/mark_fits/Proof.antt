@@ -4,8 +4,8 @@ use borrow.Author.Needs.{needs}
 use borrow.Author.Tests.{lt-leb, le-leb, eq-eqb, ne-eqb}
 use Rattle.lists.proofs.TestLaws.{all-no, all-last, _then_, final}
 use Rattle.rules.specs.Sessions.{markFits}
-use Rattle.sessions.proofs.fits.mark_fits.Statement.{statement}
-use Rattle.sessions.proofs.fits.mark_fits.Tie as tie
+use Rattle.sessions.proofs.marks_fit.mark_fits.Statement.{statement}
+use Rattle.sessions.proofs.marks_fit.mark_fits.Tie as tie
 
 returns : tie.Need-returns
 unfolding markFits

@@ -15,8 +15,8 @@ use Rattle.lists.proofs.TestLaws.{numbers-more, numbers-fail}
 use Rattle.volume.specs.Volumes.{view}
 use Rattle.byteset.proofs.BitLaws.{none-above}
 use Rattle.rules.specs.Sessions.{filesRead, isReading, holdFits, readsFit}
-use Rattle.sessions.proofs.fits.reads_fit.Statement.{statement}
-use Rattle.sessions.proofs.fits.reads_fit.Tie as tie
+use Rattle.sessions.proofs.holds_fit.reads_fit.Statement.{statement}
+use Rattle.sessions.proofs.holds_fit.reads_fit.Tie as tie
 
 -- The bits of the word from file f on.
 abbrev bitsFrom : ℕ → ℕ → ℕ

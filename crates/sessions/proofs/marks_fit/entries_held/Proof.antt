@@ -13,8 +13,8 @@ use Rattle.volume.specs.Volumes.{view}
 use Rattle.volume.specs.WellFormed.{noEntry}
 use Rattle.volume.proofs.ReadLaws.{entry-file-is}
 use Rattle.rules.specs.Sessions.{holds}
-use Rattle.sessions.proofs.fits.entries_held.Statement.{statement}
-use Rattle.sessions.proofs.fits.entries_held.Tie as tie
+use Rattle.sessions.proofs.marks_fit.entries_held.Statement.{statement}
+use Rattle.sessions.proofs.marks_fit.entries_held.Tie as tie
 
 abbrev Inv-loop : tie.InvT-loop
 Inv-loop v k n i₀ i = (i ≤ n) × (n ≡ length (view v .records k .entries)) × (every (λ e. holds (view v) k (e .file)) (view v .records k .entries) ≡ every (λ e. holds (view v) k (e .file)) (drop i (view v .records k .entries)))

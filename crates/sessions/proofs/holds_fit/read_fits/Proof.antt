@@ -1,8 +1,8 @@
 -- `read_fits` meets its contract: the hold is looked at first.
 use mathlib.Core.Path.{sym, _∙_}
 use borrow.Author.Needs.{needs}
-use Rattle.sessions.proofs.fits.read_fits.Statement.{statement}
-use Rattle.sessions.proofs.fits.read_fits.Tie as tie
+use Rattle.sessions.proofs.holds_fit.read_fits.Statement.{statement}
+use Rattle.sessions.proofs.holds_fit.read_fits.Tie as tie
 
 returns : tie.Need-returns
 returns c =

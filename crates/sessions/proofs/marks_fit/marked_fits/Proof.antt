@@ -1,8 +1,8 @@
 -- `marked_fits` meets its contract: the mark is looked at first.
 use mathlib.Core.Path.{sym, _∙_}
 use borrow.Author.Needs.{needs}
-use Rattle.sessions.proofs.fits.marked_fits.Statement.{statement}
-use Rattle.sessions.proofs.fits.marked_fits.Tie as tie
+use Rattle.sessions.proofs.marks_fit.marked_fits.Statement.{statement}
+use Rattle.sessions.proofs.marks_fit.marked_fits.Tie as tie
 
 returns : tie.Need-returns
 returns c =
