@@ -5,7 +5,7 @@ ghost use mathlib.Core.Path.{_≡_};
 ghost use mathlib.Core.Bool.{false, not, _&&_};
 ghost use Prim.Native.Nat.{_-_, _^_, _≤_, _<_};
 ghost use lib.Dec.{eqb};
-ghost use Rattle.lists.specs.Lists.{any, from};
+ghost use Rattle.lists.specs.Lists.{every, from};
 ghost use Rattle.rules.specs.Sessions.{setActive, filesRead, isReading, withReading, withoutReading, withoutReader, isReadByOther};
 
 // The word that has only the bit of file f.
@@ -45,14 +45,14 @@ pub fn wide(word: u16) -> usize
     word as usize
 }
 
-// Whether a client holds a file for reading. Most sessions have no such hold, so this is looked at first: the four words
-// as one number.
-pub fn has_reader(s: Session) -> bool
-    ensures { λ r. ⌜ r ≡ any (λ k. not (eqb (filesRead s k) 0)) (from 1 4) ⌝ }
+// The four words of holds as one number. Most sessions have no hold, so whether it is 0 is looked at first.
+pub fn all_holds(s: Session) -> usize
+    ensures { λ r. ⌜ eqb r 0 ≡ every (λ k. eqb (filesRead s k) 0) (from 1 4) ⌝ }
 {
-    let low = wide(s.reading[0]) + 65536 * wide(s.reading[1]);
-    let high = wide(s.reading[2]) + 65536 * wide(s.reading[3]);
-    low + 4294967296 * high != 0
+    wide(s.reading[0])
+        + 65536 * wide(s.reading[1])
+        + 4294967296 * wide(s.reading[2])
+        + 281474976710656 * wide(s.reading[3])
 }
 
 // The session without it.
@@ -60,7 +60,7 @@ pub fn without_reading(s: Session, k: u8, f: u8) -> Session
     requires { ⌜ (1 ≤ k) × (k ≤ 4) × (1 ≤ f) × (f ≤ 16) ⌝ }
     ensures { λ r. ⌜ r ≡ withoutReading s k f ⌝ }
 {
-    if !has_reader(s) {
+    if all_holds(s) == 0 {
         return s;
     }
     cleared(s, k, f)
@@ -108,7 +108,7 @@ pub fn is_read_by_other(s: Session, k: u8, f: u8) -> bool
     requires { ⌜ (1 ≤ f) × (f ≤ 16) ⌝ }
     ensures { λ r. ⌜ r ≡ isReadByOther s k f ⌝ }
 {
-    if !has_reader(s) {
+    if all_holds(s) == 0 {
         return false;
     }
     let last = reads_beside(s, 3, k, f) | reads_beside(s, 4, k, f);

@@ -1,5 +1,5 @@
 // Whether the reading holds of a session fit the volume: what M-102 adds to refusal 2.
-use crate::holds::has_reader;
+use crate::holds::all_holds;
 use crate::holds::is_reading;
 use crate::holds::wide;
 use crate::marks::is_active;
@@ -62,7 +62,7 @@ pub fn holds_fit(v: &[u8], s: Session) -> bool
     requires { ⌜ WellFormed (now v) ⌝ }
     ensures { λ r. ⌜ r ≡ holdsFit (view (now (v .entry))) s ⌝ }
 {
-    if !has_reader(s) {
+    if all_holds(s) == 0 {
         return true;
     }
     let mut k: u8 = 1;

@@ -2,7 +2,7 @@
 use mathlib.Core.Path.{refl, sym, _∙_}
 use mathlib.Core.Bool.{not, _&&_, or-false}
 use borrow.Author.Needs.{needs}
-use borrow.Author.Tests.{not-true}
+use borrow.Author.Tests.{eq-eqb}
 use lib.Dec.{eqb}
 use Rattle.rules.specs.Sessions.{isReading, isReadByOther}
 use Rattle.rules.proofs.SessionLaws.{none-reading, none-read}
@@ -12,7 +12,7 @@ use Rattle.sessions.proofs.holds.is_read_by_other.Tie as tie
 returns : tie.Need-returns
 returns c =
     let x = c .before .before .args in
-    sym (none-read (x .s) (x .k) (x .f) (λ j lo hi. none-reading (x .s) (sym (c .before .has-reader .ensures) ∙ not-true _ (c .if1 .taken)) j (x .f) lo hi))
+    sym (none-read (x .s) (x .k) (x .f) (λ j lo hi. none-reading (x .s) (sym (c .before .all-holds .ensures) ∙ eq-eqb _ 0 (c .if1 .taken)) j (x .f) lo hi))
 
 returns-2 : tie.Need-returns-2
 unfolding isReadByOther

@@ -4,7 +4,7 @@ use mathlib.Core.Path.{_≡_, refl, sym, _∙_}
 use Prim.Native.Nat.{_-_, _≤_}
 use native.Mathlib.Omega.{arith}
 use borrow.Author.Needs.{needs}
-use borrow.Author.Tests.{not-true, not-false}
+use borrow.Author.Tests.{eq-eqb, not-true, not-false}
 use Rattle.lists.specs.Lists.{every, from}
 use Rattle.lists.proofs.TestLaws.{numbers-more, numbers-fail, numbers-done}
 use Rattle.volume.specs.Volumes.{view}
@@ -28,7 +28,7 @@ reads-fit-requires c κs = (c .before .before .before .before .before .pre, c .b
 returns : tie.Need-returns Inv-loop μ-loop
 returns c =
     let t = c .before in
-    sym (none-fits _ (t .before .before .args .s) (sym (t .has-reader .ensures) ∙ not-true _ (c .if1 .taken)))
+    sym (none-fits _ (t .before .before .args .s) (sym (t .all-holds .ensures) ∙ eq-eqb _ 0 (c .if1 .taken)))
 
 returns-2 : tie.Need-returns-2 Inv-loop μ-loop
 returns-2 c =
