@@ -12,32 +12,32 @@ enum { SECTORS = 11, LENGTH = VOL_SECTOR_SIZE * SECTORS };
 static uint8_t chip[LENGTH];
 // The working copy, and the copy kept from before the call. Between calls both are the same as the chip.
 static uint8_t work[LENGTH], start[LENGTH];
-static uint8_t session;
+static vol_session session;
 
 static const uint8_t shape[] = {2, 3, 1, 3};
 static const uint8_t page[VOL_SECTOR_SIZE] = {1, 2, 3};
 
-static uint64_t begin(uint8_t budget) {
+static vol_reply begin(uint8_t budget) {
     return vol_begin(work, LENGTH, session, 1, budget);
 }
 
-static uint64_t open_1(uint8_t budget) {
+static vol_reply open_1(uint8_t budget) {
     return vol_open(work, LENGTH, session, 1, 1, budget);
 }
 
-static uint64_t open_2(uint8_t budget) {
+static vol_reply open_2(uint8_t budget) {
     return vol_open(work, LENGTH, session, 1, 2, budget);
 }
 
-static uint64_t write_1(uint8_t budget) {
+static vol_reply write_1(uint8_t budget) {
     return vol_write(work, LENGTH, session, 1, 1, 0, page, sizeof page, budget);
 }
 
-static uint64_t write_2(uint8_t budget) {
+static vol_reply write_2(uint8_t budget) {
     return vol_write(work, LENGTH, session, 1, 2, 0, page, sizeof page, budget);
 }
 
-static uint64_t commit(uint8_t budget) {
+static vol_reply commit(uint8_t budget) {
     return vol_commit(work, LENGTH, session, 1, budget);
 }
 
@@ -55,9 +55,9 @@ static void write_to_chip(void) {
 }
 
 // With budget n the working copy is as after the first n stores of the call, so the chip is one store behind it. The
-// supply may fail at any moment: the chip then has the first stores of the call, and the next start gives session 0.
-static void store_by_store(const char *name, uint64_t (*call)(uint8_t budget)) {
-    uint64_t reply;
+// supply may fail at any moment: the chip then has the first stores of the call, and the next start has a new session.
+static void store_by_store(const char *name, vol_reply (*call)(uint8_t budget)) {
+    vol_reply reply;
     uint8_t budget = 0;
     printf("%s:", name);
     memcpy(start, work, LENGTH);
@@ -65,9 +65,9 @@ static void store_by_store(const char *name, uint64_t (*call)(uint8_t budget)) {
         memcpy(work, start, LENGTH);
         reply = call(++budget);
         write_to_chip();
-    } while (VOL_KIND(reply) == VOL_CUT);
-    session = VOL_SESSION(reply);
-    printf(", %s %u\n", VOL_KIND(reply) == VOL_DONE ? "done" : "refused", VOL_NUMBER(reply));
+    } while (reply.kind == VOL_CUT);
+    session = reply.session;
+    printf(", %s %u\n", reply.kind == VOL_DONE ? "done" : "refused", reply.number);
 }
 
 int main(void) {

@@ -1,6 +1,6 @@
 // A kiln controller's loop. It loads a card (file 1) and notes the flask on it (file 2) in one transaction, and the
 // supply fails after 0, 1, 2 .. stores of it. After each start the two belong together: both are old, or both are new.
-// Then the kiln fires by the curve (file 3), and a panel reads the same curve while it does: neither waits for the other.
+// Then the kiln fires by the curve (file 3), and a panel reads the same curve meanwhile: neither waits for the other.
 #include <stdio.h>
 #include <stdlib.h>
 
@@ -79,9 +79,13 @@ static int take_files(void) {
     return begin(KILN) && open_file(KILN, CARD) && open_file(KILN, FLASK);
 }
 
+static int note(unsigned number) {
+    return write_number(KILN, CARD, 0, number) && write_number(KILN, FLASK, 0, number);
+}
+
 // Answers 0 if the supply failed on the way; then a start comes next.
 static int load(unsigned number) {
-    return take_files() && write_number(KILN, CARD, 0, number) && write_number(KILN, FLASK, 0, number) && commit(KILN);
+    return take_files() && note(number) && commit(KILN);
 }
 
 static void list(void) {
@@ -129,19 +133,19 @@ static int write_curve(unsigned degrees) {
     return commit(PANEL);
 }
 
-// The kiln fires by the curve and notes each step on the card; the panel shows the curve meanwhile. Both hold it for
-// reading, so no step of it changes while they do, and to write it is refused. Answers whether both saw the same.
-static int fire(void) {
-    if (!(begin(KILN) && open_read(KILN, CURVE) && open_file(KILN, CARD))) return 0;
-    if (!(begin(PANEL) && open_read(PANEL, CURVE))) return 0;
+// The kiln fires the next flask by the curve, and the panel shows the curve meanwhile. Both hold it for reading, so no
+// step of it changes while they do, and to write it is refused. Answers whether both saw the same.
+static int fire(unsigned number) {
+    if (!(take_files() && open_read(KILN, CURVE) && begin(PANEL) && open_read(PANEL, CURVE))) return 0;
     for (uint8_t step = 0; step < STEPS; step++) {
         unsigned fired = read_number(KILN, CURVE, step), shown = read_number(PANEL, CURVE, step);
-        printf("step %u: fired at %u, shown as %u\n", step, fired, shown);
-        if (fired != shown || !write_number(KILN, CARD, 0, step)) return 0;
+        printf("flask %u, step %u: fired at %u, shown as %u\n", number, step, fired, shown);
+        if (fired != shown) return 0;
     }
     vol_reply reply = vol_open(chip, sizeof chip, session, PANEL, CURVE, budget());
-    printf("write the curve: %s\n", reply.kind == VOL_REFUSED && reply.number == VOL_FILE_IN_USE ? "in use" : "allowed");
-    return reply.kind == VOL_REFUSED && commit(KILN);
+    if (reply.kind != VOL_REFUSED || reply.number != VOL_FILE_IN_USE) return 0;
+    printf("the curve is in use\n");
+    return note(number) && commit(KILN);
 }
 
 int main(void) {
@@ -151,6 +155,7 @@ int main(void) {
     start();
     if (!(begin(PANEL) && write_curve(900))) return 1;
     // Once the kiln has given the curve back, the panel alone reads it, and writes the next one.
-    if (!(fire() && write_curve(1200) && fire())) return 1;
-    return 0;
+    if (!(fire(WHOLE + 2) && write_curve(1200) && fire(WHOLE + 3))) return 1;
+    start();
+    return check() ? 0 : 1;
 }

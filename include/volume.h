@@ -54,7 +54,7 @@ typedef char vol_layout[sizeof(vol_session) == 10 && offsetof(vol_session, activ
 // The kinds of a reply and of an answer.
 enum { VOL_DONE = 0, VOL_CUT = 1, VOL_REFUSED = 2, VOL_SECTOR = 3 };
 
-// The refusals: the number beside VOL_REFUSED. A call gives the lowest that applies, but 16 is tested after 8 and before 9.
+// The refusals: the number beside VOL_REFUSED. A call gives the lowest that applies; 16 is tested after 8 and before 9.
 enum {
     VOL_NOT_SOUND = 1,           // the array is not a sound volume
     VOL_BAD_SESSION = 2,         // the session doesn't fit the volume
@@ -105,10 +105,11 @@ vol_reply vol_begin(uint8_t *volume, size_t len, vol_session session, uint8_t cl
 vol_reply vol_open(uint8_t *volume, size_t len, vol_session session, uint8_t client, uint8_t file, uint8_t budget);
 
 // Gives the file to the client for reading only, until it commits or aborts, or opens the file by vol_open.
-// Any number of clients may hold a file so at the same time: 7 only if another client's running transaction holds it for
-// writing. While they do, no page of it changes.
-// The hold is noted in the session and takes no store. If a crash interrupted the holder's transaction, that is recovered
-// first, in all its files; these are the only stores. A file that the client holds already, either way, stays as it is.
+// Any number of clients may hold a file so at the same time: 7 only if another client's running transaction holds it
+// for writing. While they do, no page of it changes.
+// The hold is noted in the session and takes no store. If a crash interrupted the holder's transaction, that is
+// recovered first, in all its files; these are the only stores. A file that the client holds already, either way, stays
+// as it is.
 // Reply: done with the session that has the hold; cut; or refused.
 // Refused by 1, 2, 3, 5, 6, 7.
 vol_reply vol_open_read(uint8_t *volume, size_t len, vol_session session, uint8_t client, uint8_t file,
@@ -129,8 +130,8 @@ vol_answer vol_read(const uint8_t *volume, size_t len, vol_session session, uint
 vol_reply vol_write(uint8_t *volume, size_t len, vol_session session, uint8_t client, uint8_t file, uint8_t page,
                     const uint8_t *bytes, size_t bytes_len, uint8_t budget);
 
-// Ends the client's transaction: its pages become the files' content, all of them or none. It gives its files back, those
-// that it reads too.
+// Ends the client's transaction: its pages become the files' content, all of them or none. It gives its files back,
+// those that it reads too.
 // Reply: done with the session that no longer marks the client; cut; or refused.
 // Cut with number 0, nothing is kept; cut with 1 or more, everything is: the client's next begin, or an open of its
 // files, does the rest.
