@@ -24,7 +24,7 @@ use Rattle.volume.specs.Stores.{cutAt, allStores}
 use Rattle.volume.specs.Lawful.{lawful}
 use Rattle.volume.specs.Sound.{encoded, canonical, sound}
 use Rattle.volume.specs.Format.{lengthFits, shapeFits, endFits, formatTests, repeated, newFiles, newVolume, format}
-use Rattle.rules.specs.Sessions.{isReading, markFits, holdFits, readsFit, sessionFits}
+use Rattle.rules.specs.Sessions.{isReading, markFits, holdFits, clientHoldsFit, sessionFits}
 use Rattle.rules.specs.Recovery.{heldFiles, recovery}
 use Rattle.rules.specs.Plans.{begin, openRead, commit, readPage, beginPlan, openReadPlan, plan}
 use Rattle.rules.specs.Refusals.{tests, queryTests}
@@ -63,18 +63,18 @@ startsWith7 d = eqb (getD d 0 1) 7
 
 -- A model that shows sevens, where the content is zeros.
 wrong-shown : ReadersShown table (run begun both (record { pages = λ f p. page 7; pending = newModel .pending })) (calls false (begin 1) 3) → ⊥
-unfolding sessionFits markFits readsFit holdFits isReading sound lawful canonical encoded all view tableOf recordIn headerIn slotIn decodeTable decodeFiles decodeRecord decodeEntries decodeHeader sector storeAt newVolume newFiles repeated sectorAfter encodeTable fileBytes encodeRecord entryBytes encodeHeader padded
+unfolding sessionFits markFits clientHoldsFit holdFits isReading sound lawful canonical encoded all view tableOf recordIn headerIn slotIn decodeTable decodeFiles decodeRecord decodeEntries decodeHeader sector storeAt newVolume newFiles repeated sectorAfter encodeTable fileBytes encodeRecord entryBytes encodeHeader padded
 wrong-shown h = false≢true (ap startsWith7 (sym (h 2 1 0 client2 page0 refl .0)))
 
 -- A read that is refused, as the volume isn't sound: it hands back nothing.
 wrong-part : ReadersShown table (run (set begun 0 0) both newModel) (calls false (begin 1) 3) → ⊥
-unfolding query queryTests first sessionFits markFits readsFit holdFits isReading sound lawful canonical encoded all view tableOf recordIn headerIn slotIn decodeTable decodeFiles decodeRecord decodeEntries decodeHeader sector storeAt newVolume newFiles repeated sectorAfter encodeTable fileBytes encodeRecord entryBytes encodeHeader padded
+unfolding query queryTests first sessionFits markFits clientHoldsFit holdFits isReading sound lawful canonical encoded all view tableOf recordIn headerIn slotIn decodeTable decodeFiles decodeRecord decodeEntries decodeHeader sector storeAt newVolume newFiles repeated sectorAfter encodeTable fileBytes encodeRecord entryBytes encodeHeader padded
 wrong-part h = false≢true (ap (λ (d : Bytes). eqb (getD d 0 1) 0) (h 2 1 0 client2 page0 refl .1))
 
 -- Client 1 commits sevens for a page that client 2 reads, before and after it: what client 2 is shown changes. Such pages aren't
 -- pending in any run.
 page-changes : StepSteady table (run begun both pending7) (calls false (commit 1) 3) → ⊥
-unfolding stepped modelCall call tests plan recovery heldFiles redone cutAt allStores first sessionFits markFits readsFit holdFits isReading sound lawful canonical encoded all view tableOf recordIn headerIn slotIn decodeTable decodeFiles decodeRecord decodeEntries decodeHeader sector storeAt newVolume newFiles repeated sectorAfter encodeTable fileBytes encodeRecord entryBytes encodeHeader padded
+unfolding stepped modelCall call tests plan recovery heldFiles redone cutAt allStores first sessionFits markFits clientHoldsFit holdFits isReading sound lawful canonical encoded all view tableOf recordIn headerIn slotIn decodeTable decodeFiles decodeRecord decodeEntries decodeHeader sector storeAt newVolume newFiles repeated sectorAfter encodeTable fileBytes encodeRecord entryBytes encodeHeader padded
 page-changes h = false≢true (ap startsWith7 (sym (h 2 1 0 client2 page0 refl refl .1)))
 
 -- Each step is asked about, the later ones from what the earlier left.
@@ -84,7 +84,7 @@ asked-later r x y h = (h .2 .0, h .2 .1)
 -- ------------------------------------------------------------------ while a client holds
 -- Client 2 reads through client 1's commit; not through a crash before it, and not through its own commit.
 reads-through : ReadsThrough (run begun both newModel) 2 1 (calls false (commit 1) 3 ∷ [])
-unfolding stepped modelCall call tests plan recovery heldFiles redone cutAt allStores first sessionFits markFits readsFit holdFits isReading sound lawful canonical encoded all view tableOf recordIn headerIn slotIn decodeTable decodeFiles decodeRecord decodeEntries decodeHeader sector storeAt newVolume newFiles repeated sectorAfter encodeTable fileBytes encodeRecord entryBytes encodeHeader padded
+unfolding stepped modelCall call tests plan recovery heldFiles redone cutAt allStores first sessionFits markFits clientHoldsFit holdFits isReading sound lawful canonical encoded all view tableOf recordIn headerIn slotIn decodeTable decodeFiles decodeRecord decodeEntries decodeHeader sector storeAt newVolume newFiles repeated sectorAfter encodeTable fileBytes encodeRecord entryBytes encodeHeader padded
 reads-through = (refl, refl, tt)
 
 not-through-crash : ReadsThrough (run begun both newModel) 2 1 (calls true (begin 1) 3 ∷ []) → ⊥
@@ -92,7 +92,7 @@ unfolding isReading
 not-through-crash h = false≢true (h .0)
 
 not-through-commit : ReadsThrough (run begun both newModel) 2 1 (calls false (commit 2) 3 ∷ []) → ⊥
-unfolding stepped modelCall call tests plan recovery heldFiles redone cutAt allStores first sessionFits markFits readsFit holdFits isReading sound lawful canonical encoded all view tableOf recordIn headerIn slotIn decodeTable decodeFiles decodeRecord decodeEntries decodeHeader sector storeAt newVolume newFiles repeated sectorAfter encodeTable fileBytes encodeRecord entryBytes encodeHeader padded
+unfolding stepped modelCall call tests plan recovery heldFiles redone cutAt allStores first sessionFits markFits clientHoldsFit holdFits isReading sound lawful canonical encoded all view tableOf recordIn headerIn slotIn decodeTable decodeFiles decodeRecord decodeEntries decodeHeader sector storeAt newVolume newFiles repeated sectorAfter encodeTable fileBytes encodeRecord entryBytes encodeHeader padded
 not-through-commit h = false≢true (h .1)
 
 -- ------------------------------------------------------------------ the claims hold of this volume
@@ -111,7 +111,7 @@ sharing-is = refl
 
 shared : (answersTo (started fresh) 1 (sharing 1 2 1) ≡ done 1 ∷ done 1 ∷ done 0 ∷ done 0 ∷ [])
     × (calledAll (started fresh) 1 (sharing 1 2 1) .session ≡ both)
-unfolding modelCall call tests plan beginPlan openReadPlan withBit recovery heldFiles cutAt allStores first sessionFits markFits readsFit holdFits isReading sound lawful canonical encoded all view tableOf recordIn headerIn slotIn decodeTable decodeFiles decodeRecord decodeEntries decodeHeader sector storeAt newVolume newFiles repeated sectorAfter encodeTable fileBytes encodeRecord entryBytes encodeHeader padded
+unfolding modelCall call tests plan beginPlan openReadPlan withBit recovery heldFiles cutAt allStores first sessionFits markFits clientHoldsFit holdFits isReading sound lawful canonical encoded all view tableOf recordIn headerIn slotIn decodeTable decodeFiles decodeRecord decodeEntries decodeHeader sector storeAt newVolume newFiles repeated sectorAfter encodeTable fileBytes encodeRecord entryBytes encodeHeader padded
 shared = (refl, refl)
 
 share-here : ReadersShare → answersTo (started fresh) 1 (sharing 1 2 1) ≡ done 1 ∷ done 1 ∷ done 0 ∷ done 0 ∷ []

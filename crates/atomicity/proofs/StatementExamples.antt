@@ -24,7 +24,7 @@ use Rattle.volume.specs.Lawful.{lawful}
 use Rattle.volume.specs.Sound.{encoded, canonical, sound}
 use Rattle.sector.specs.Shapes.{filesOf}
 use Rattle.volume.specs.Format.{lengthFits, shapeFits, endFits, formatTests, repeated, newFiles, newVolume, format}
-use Rattle.rules.specs.Sessions.{isReading, isReadByOther, markFits, readsFit, sessionFits}
+use Rattle.rules.specs.Sessions.{isReading, isReadByOther, markFits, clientHoldsFit, sessionFits}
 use Rattle.rules.specs.Recovery.{heldFiles, recovery}
 use Rattle.rules.specs.Plans.{Call, begin, openFile, write, commit, abort, Query, readPage, freeSlots, chosen, beginPlan, openPlan, plan}
 use Rattle.rules.specs.Content.{decidedContent}
@@ -94,7 +94,7 @@ unfolding sector storeAt newVolume newFiles repeated sectorAfter encodeTable fil
 wrong-sector s h = false≢true (ap startsWith0 (h .0))
 
 wrong-part : QueryAgrees begun newSession newModel (readPage 1 1 0) (found 4) → ⊥
-unfolding query queryTests first sessionFits markFits readsFit isReading sound lawful canonical encoded all view tableOf recordIn headerIn decodeTable decodeFiles decodeRecord decodeEntries decodeHeader sector storeAt newVolume newFiles repeated sectorAfter encodeTable fileBytes encodeRecord entryBytes encodeHeader padded
+unfolding query queryTests first sessionFits markFits clientHoldsFit isReading sound lawful canonical encoded all view tableOf recordIn headerIn decodeTable decodeFiles decodeRecord decodeEntries decodeHeader sector storeAt newVolume newFiles repeated sectorAfter encodeTable fileBytes encodeRecord entryBytes encodeHeader padded
 wrong-part h = false≢true (ap startsWith0 (h .1))
 
 -- A read that is refused shows nothing.
@@ -103,11 +103,11 @@ refused-query v s m q n = tt
 
 -- Client 1 reads zeros where it has sevens pending: that doesn't agree. After a crash the same read is refused.
 wrong-step : StepAgrees (run begun active1 pending7) (asks false (readPage 1 1 0)) → ⊥
-unfolding query queryTests first sessionFits markFits readsFit isReading sound lawful canonical encoded all view tableOf recordIn headerIn decodeTable decodeFiles decodeRecord decodeEntries decodeHeader sector storeAt newVolume newFiles repeated sectorAfter encodeTable fileBytes encodeRecord entryBytes encodeHeader padded
+unfolding query queryTests first sessionFits markFits clientHoldsFit isReading sound lawful canonical encoded all view tableOf recordIn headerIn decodeTable decodeFiles decodeRecord decodeEntries decodeHeader sector storeAt newVolume newFiles repeated sectorAfter encodeTable fileBytes encodeRecord entryBytes encodeHeader padded
 wrong-step h = false≢true (ap (λ (d : Bytes). eqb (getD d 0 1) 7) (h .0))
 
 crashed-step : StepAgrees (run begun active1 pending7) (asks true (readPage 1 1 0))
-unfolding query queryTests first sessionFits markFits readsFit isReading sound lawful canonical encoded all view tableOf recordIn headerIn decodeTable decodeFiles decodeRecord decodeEntries decodeHeader sector storeAt newVolume newFiles repeated sectorAfter encodeTable fileBytes encodeRecord entryBytes encodeHeader padded
+unfolding query queryTests first sessionFits markFits clientHoldsFit isReading sound lawful canonical encoded all view tableOf recordIn headerIn decodeTable decodeFiles decodeRecord decodeEntries decodeHeader sector storeAt newVolume newFiles repeated sectorAfter encodeTable fileBytes encodeRecord entryBytes encodeHeader padded
 crashed-step = tt
 
 -- Of a call nothing is asked by itself.
@@ -126,7 +126,7 @@ wrong-read : (xs : List Step) → Agrees table (run begun active1 pending7) (ask
 wrong-read xs h = wrong-step (h .1)
 
 wrong-after : Agrees table (run begun active1 pending7) (calls false (commit 1) 3 ∷ []) → ⊥
-unfolding stepped modelCall call tests plan recovery heldFiles redone cutAt allStores first sessionFits markFits readsFit isReading sound lawful canonical encoded all view tableOf recordIn headerIn slotIn decodeTable decodeFiles decodeRecord decodeEntries decodeHeader sector storeAt newVolume newFiles repeated sectorAfter encodeTable fileBytes encodeRecord entryBytes encodeHeader padded
+unfolding stepped modelCall call tests plan recovery heldFiles redone cutAt allStores first sessionFits markFits clientHoldsFit isReading sound lawful canonical encoded all view tableOf recordIn headerIn slotIn decodeTable decodeFiles decodeRecord decodeEntries decodeHeader sector storeAt newVolume newFiles repeated sectorAfter encodeTable fileBytes encodeRecord entryBytes encodeHeader padded
 wrong-after h = false≢true (ap (λ (d : Bytes). eqb (getD d 0 1) 7) (h .2 1 0 (omega arith) (omega arith) (omega arith)))
 
 -- The claim holds of this volume and of every list of steps on it.
@@ -144,7 +144,7 @@ step-refusals : map (stepRefusal (run begun active1 newModel))
     (calls false (abort 1) 3 ∷ calls true (abort 1) 3 ∷ calls false (abort 1) 0 ∷ asks false (readPage 1 1 1) ∷ asks true (readPage 1 1 1)
     ∷ asks false (readPage 1 1 2) ∷ asks false (readPage 1 2 0) ∷ asks false (readPage 2 1 0) ∷ [])
     ≡ 0 ∷ 5 ∷ 0 ∷ 0 ∷ 5 ∷ 9 ∷ 8 ∷ 5 ∷ []
-unfolding call tests query queryTests plan recovery heldFiles allStores first sessionFits markFits readsFit isReading sound lawful canonical encoded all view tableOf recordIn headerIn decodeTable decodeFiles decodeRecord decodeEntries decodeHeader sector storeAt newVolume newFiles repeated sectorAfter encodeTable fileBytes encodeRecord entryBytes encodeHeader padded
+unfolding call tests query queryTests plan recovery heldFiles allStores first sessionFits markFits clientHoldsFit isReading sound lawful canonical encoded all view tableOf recordIn headerIn decodeTable decodeFiles decodeRecord decodeEntries decodeHeader sector storeAt newVolume newFiles repeated sectorAfter encodeTable fileBytes encodeRecord entryBytes encodeHeader padded
 step-refusals = refl
 
 -- A volume that isn't sound isn't accepted, nor is a session that marks a client which hasn't begun; nor at a later step: after
@@ -154,12 +154,12 @@ unfolding call tests first sound lawful canonical encoded all view tableOf recor
 unsound-not-accepted h = h .0 refl
 
 session-not-accepted : Accepted (run fresh active1 newModel) (asks true (readPage 1 1 0) ∷ calls false (begin 2) 3 ∷ []) → ⊥
-unfolding stepped call tests first sessionFits markFits readsFit isReading sound lawful canonical encoded all view tableOf recordIn headerIn decodeTable decodeFiles decodeRecord decodeEntries decodeHeader sector newVolume newFiles repeated sectorAfter encodeTable fileBytes encodeRecord entryBytes encodeHeader padded
+unfolding stepped call tests first sessionFits markFits clientHoldsFit isReading sound lawful canonical encoded all view tableOf recordIn headerIn decodeTable decodeFiles decodeRecord decodeEntries decodeHeader sector newVolume newFiles repeated sectorAfter encodeTable fileBytes encodeRecord entryBytes encodeHeader padded
 session-not-accepted h = h .2 .1 refl
 
 -- Each step is judged by what the one before left: the crash takes the wrong session away, and begin makes a right one of it.
 begun-accepted : Accepted (run fresh active1 newModel) (calls true (begin 1) 3 ∷ calls false (begin 2) 3 ∷ [])
-unfolding stepped modelCall call tests plan beginPlan recovery heldFiles cutAt allStores first sessionFits markFits readsFit isReading sound lawful canonical encoded all view tableOf recordIn headerIn decodeTable decodeFiles decodeRecord decodeEntries decodeHeader sector storeAt newVolume newFiles repeated sectorAfter encodeTable fileBytes encodeRecord entryBytes encodeHeader padded
+unfolding stepped modelCall call tests plan beginPlan recovery heldFiles cutAt allStores first sessionFits markFits clientHoldsFit isReading sound lawful canonical encoded all view tableOf recordIn headerIn decodeTable decodeFiles decodeRecord decodeEntries decodeHeader sector storeAt newVolume newFiles repeated sectorAfter encodeTable fileBytes encodeRecord entryBytes encodeHeader padded
 begun-accepted = (λ e. false≢true (ap (eqb 1) e), λ e. false≢true (ap (eqb 2) e), (λ e. false≢true (ap (eqb 1) e), λ e. false≢true (ap (eqb 2) e), tt))
 
 -- The claims hold of this volume.
@@ -178,14 +178,14 @@ writing-is d = refl
 -- Client 2 writes page 1 of file 1: with 3 stores allowed for each call, and with 2, when the commit crashes.
 answers-to : answersTo (started fresh) 3 (writing 2 1 1 (page 7)) ++ answersTo (started fresh) 2 (writing 2 1 1 (page 7))
     ≡ done 1 ∷ done 1 ∷ done 2 ∷ done 3 ∷ done 1 ∷ done 1 ∷ done 2 ∷ crashed 2 ∷ []
-unfolding modelCall call tests plan beginPlan openPlan isReadByOther withoutBit chosen freeSlots recovery heldFiles redone cutAt allStores first sessionFits markFits readsFit isReading sound lawful canonical encoded all view tableOf recordIn headerIn decodeTable decodeFiles decodeRecord decodeEntries decodeHeader sector storeAt newVolume newFiles repeated sectorAfter encodeTable fileBytes encodeRecord entryBytes encodeHeader padded
+unfolding modelCall call tests plan beginPlan openPlan isReadByOther withoutBit chosen freeSlots recovery heldFiles redone cutAt allStores first sessionFits markFits clientHoldsFit isReading sound lawful canonical encoded all view tableOf recordIn headerIn decodeTable decodeFiles decodeRecord decodeEntries decodeHeader sector storeAt newVolume newFiles repeated sectorAfter encodeTable fileBytes encodeRecord entryBytes encodeHeader padded
 answers-to = refl
 
 -- The run after the first three of them: the session is the one last handed back, and the page is pending.
 called-all : let r = calledAll (started fresh) 2 (begin 2 ∷ openFile 2 1 ∷ write 2 1 1 (page 7) ∷ []) in
     (r .session ≡ active2) × (sector (r .volume) 6 ≡ page 7)
     × (r .model .pending 2 1 1 ≡ some (page 7))
-unfolding modelCall call tests plan beginPlan openPlan isReadByOther withoutBit chosen freeSlots recovery heldFiles redone cutAt allStores first sessionFits markFits readsFit isReading sound lawful canonical encoded all view tableOf recordIn headerIn decodeTable decodeFiles decodeRecord decodeEntries decodeHeader sector storeAt newVolume newFiles repeated sectorAfter encodeTable fileBytes encodeRecord entryBytes encodeHeader padded
+unfolding modelCall call tests plan beginPlan openPlan isReadByOther withoutBit chosen freeSlots recovery heldFiles redone cutAt allStores first sessionFits markFits clientHoldsFit isReading sound lawful canonical encoded all view tableOf recordIn headerIn decodeTable decodeFiles decodeRecord decodeEntries decodeHeader sector storeAt newVolume newFiles repeated sectorAfter encodeTable fileBytes encodeRecord entryBytes encodeHeader padded
 called-all = (refl, refl, refl)
 
 -- The claim holds of this volume, for its last client and the last page of the file that has a slot to spare, at a budget of 3.
@@ -210,13 +210,13 @@ events-of : map (eventOf (run begun active1 newModel)) (calls false (abort 1) 3 
     ∷ says (ofQuery (found 5)) active1 (page 0) (page 0)
     ∷ says (ofQuery (queryRefused 5)) active1 [] []
     ∷ []
-unfolding call tests query queryTests plan recovery heldFiles allStores first sessionFits markFits readsFit isReading sound lawful canonical encoded all view tableOf recordIn headerIn decodeTable decodeFiles decodeRecord decodeEntries decodeHeader sector storeAt newVolume newFiles repeated sectorAfter encodeTable fileBytes encodeRecord entryBytes encodeHeader padded
+unfolding call tests query queryTests plan recovery heldFiles allStores first sessionFits markFits clientHoldsFit isReading sound lawful canonical encoded all view tableOf recordIn headerIn decodeTable decodeFiles decodeRecord decodeEntries decodeHeader sector storeAt newVolume newFiles repeated sectorAfter encodeTable fileBytes encodeRecord entryBytes encodeHeader padded
 events-of = refl
 
 -- Each step from what the one before left.
 events-in-order : eventsOf (started fresh) (calls false (begin 1) 3 ∷ calls false (begin 1) 3 ∷ calls true (begin 1) 3 ∷ [])
     ≡ says (ofCall (done 1)) active1 [] [] ∷ says (ofCall (refused 4)) active1 [] [] ∷ says (ofCall (done 2)) active1 [] [] ∷ []
-unfolding stepped call tests plan beginPlan recovery heldFiles cutAt allStores first sessionFits markFits readsFit isReading sound lawful canonical encoded all view tableOf recordIn headerIn decodeTable decodeFiles decodeRecord decodeEntries decodeHeader sector storeAt newVolume newFiles repeated sectorAfter encodeTable fileBytes encodeRecord entryBytes encodeHeader padded
+unfolding stepped call tests plan beginPlan recovery heldFiles cutAt allStores first sessionFits markFits clientHoldsFit isReading sound lawful canonical encoded all view tableOf recordIn headerIn decodeTable decodeFiles decodeRecord decodeEntries decodeHeader sector storeAt newVolume newFiles repeated sectorAfter encodeTable fileBytes encodeRecord entryBytes encodeHeader padded
 events-in-order = refl
 
 -- What the model shows client 1 of page 0 of file 1 after a step: given a mark, given none, after a crash; a write; reads; and

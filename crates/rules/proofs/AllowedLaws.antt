@@ -21,7 +21,7 @@ use Rattle.volume.specs.Views.{View}
 use Rattle.volume.specs.Lawful.{lawful}
 use Rattle.volume.proofs.PlaceLaws.{IsFile, client-of, file-of}
 use Rattle.volume.proofs.LawfulLaws.{RecordFacts, HeaderFacts, Lawful, lawful-facts, record-facts, entry-facts}
-use Rattle.rules.specs.Sessions.{holds, holdsEither, isActive, isReading, isReadByOther, markFits, holdFits, marksFit, readsFit, holdsFit, sessionFits}
+use Rattle.rules.specs.Sessions.{holds, holdsEither, isActive, isReading, isReadByOther, markFits, holdFits, marksFit, clientHoldsFit, holdsFit, sessionFits}
 use Rattle.rules.specs.Recovery.{isDecided}
 use Rattle.rules.specs.Plans.{Call, begin, openFile, openRead, write, commit, abort, Query, readPage, entryFor, slotFor, freeSlots, heldByOrphan}
 use Rattle.rules.specs.Refusals.{heldByOther, isNewPage, pageMissing, readOnly, tests, queryTests}
@@ -79,7 +79,7 @@ pub record Ready (a : View) (s : Session) : Type 0 where
   pub reads : (j f : ℕ) → Reader s j f → Shared a s j f
 
 pub ready : (a : View) (s : Session) → lawful a ≡ true → sessionFits a s ≡ true → Ready a s
-unfolding sessionFits markFits readsFit holdFits
+unfolding sessionFits markFits clientHoldsFit holdFits
 ready a s l fits = record {
   laws = lawful-facts a l;
   runs = λ j w.
@@ -89,7 +89,7 @@ ready a s l fits = record {
   reads = λ j f x.
       let e : holdFits a s j f ≡ true = or-right (not (isReading s j f)) (holdFits a s j f)
       (every-from (λ g. not (isReading s j g) || holdFits a s j g) 16 1
-      (every-from (readsFit a s) 4 1 (and-right (marksFit a s) _ fits) j (x .low) (omega (arith, x .high))) f (x .first) (omega (arith, x .last)))
+      (every-from (clientHoldsFit a s) 4 1 (and-right (marksFit a s) _ fits) j (x .low) (omega (arith, x .high))) f (x .first) (omega (arith, x .last)))
       (rw (x .on)) in
       record { active = all-at _ 0 e; file = leb-true _ _ (all-at _ 1 e); free = eqb-true _ _ (all-at _ 2 e) };
 }
@@ -97,7 +97,7 @@ ready a s l fits = record {
 -- A session fits whose marked clients have a transaction running, and whose reading holds have what they rely on.
 pub running-fits : (a : View) (s : Session) → ((j : ℕ) → Active s j → Running a j) → ((j f : ℕ) → Reader s j f → Shared a s j f)
     → sessionFits a s ≡ true
-unfolding sessionFits markFits readsFit holdFits
+unfolding sessionFits markFits clientHoldsFit holdFits
 running-fits a s runs reads = and-both (marksFit a s) (holdsFit a s)
     (every-all _ 4 1
     (λ j lo hi. by-test (isActive s j)

@@ -18,7 +18,7 @@ use Rattle.volume.specs.Stores.{Store, cutAt, allStores}
 use Rattle.volume.specs.Lawful.{lawful}
 use Rattle.volume.specs.Sound.{encoded, canonical, sound}
 use Rattle.volume.specs.Format.{repeated, newFiles, newVolume}
-use Rattle.rules.specs.Sessions.{isReading, markFits, readsFit, sessionFits}
+use Rattle.rules.specs.Sessions.{isReading, markFits, clientHoldsFit, sessionFits}
 use Rattle.rules.specs.Recovery.{heldFiles, recovery}
 use Rattle.rules.specs.Plans.{Call, begin, openRead, commit, abort, readPage, beginPlan, plan}
 use Rattle.rules.specs.Refusals.{tests, queryTests}
@@ -88,7 +88,7 @@ tiny = cutAt (newVolume (record { sectors = 6; clients = 1; files = record { pag
 parts-read : map (λ p. queryPart tiny active1 (readPage 1 1 p)) (0 ∷ 1 ∷ 2 ∷ [])
     ++ (queryPart tiny newSession (readPage 1 1 0) ∷ queryPart (set tiny 0 0) active1 (readPage 1 1 0) ∷ [])
     ≡ page 5 ∷ page 4 ∷ [] ∷ [] ∷ [] ∷ []
-unfolding query queryTests first sessionFits markFits readsFit isReading sound lawful canonical encoded all view tableOf recordIn headerIn decodeTable decodeFiles decodeRecord decodeEntries decodeHeader sector cutAt storeAt newVolume newFiles repeated sectorAfter encodeTable fileBytes encodeRecord entryBytes encodeHeader padded
+unfolding query queryTests first sessionFits markFits clientHoldsFit isReading sound lawful canonical encoded all view tableOf recordIn headerIn decodeTable decodeFiles decodeRecord decodeEntries decodeHeader sector cutAt storeAt newVolume newFiles repeated sectorAfter encodeTable fileBytes encodeRecord entryBytes encodeHeader padded
 parts-read = refl
 
 -- With holder 0, and with an idle record as well.
@@ -106,7 +106,7 @@ called : map (call tiny active1 (abort 1)) (2 ∷ 1 ∷ [])
     ∷ ends (refused 5) newSession tiny
     ∷ ends (refused 1) active1 (set tiny 0 0)
     ∷ []
-unfolding call tests plan recovery heldFiles allStores first sessionFits markFits readsFit isReading sound lawful canonical encoded all view tableOf recordIn headerIn decodeTable decodeFiles decodeRecord decodeEntries decodeHeader sector cutAt storeAt newVolume newFiles repeated sectorAfter encodeTable fileBytes encodeRecord entryBytes encodeHeader padded
+unfolding call tests plan recovery heldFiles allStores first sessionFits markFits clientHoldsFit isReading sound lawful canonical encoded all view tableOf recordIn headerIn decodeTable decodeFiles decodeRecord decodeEntries decodeHeader sector cutAt storeAt newVolume newFiles repeated sectorAfter encodeTable fileBytes encodeRecord entryBytes encodeHeader padded
 called = refl
 
 -- The session after it is the one for this volume: client 1 holds the file there and notes no hold; where nobody holds it, it does.

@@ -13,7 +13,7 @@ use Rattle.sector.specs.Contents.{Bytes, Entry, idleRecord, openRecord}
 use Rattle.volume.specs.Places.{sectorAfter}
 use Rattle.volume.specs.Views.{View, noHeader}
 use Rattle.volume.specs.Lawful.{lawful}
-use Rattle.rules.specs.Sessions.{isReading, isReadByOther, markFits, holdFits, readsFit, sessionFits}
+use Rattle.rules.specs.Sessions.{isReading, isReadByOther, markFits, holdFits, clientHoldsFit, sessionFits}
 use Rattle.rules.specs.Plans.{Call, begin, openFile, openRead, write, commit, abort, readPage, freeSlots}
 use Rattle.rules.specs.Refusals.{heldByOther, pageMissing, isNewPage, tests, queryTests}
 use Rattle.rules.proofs.ExampleViews.{marks, reads, active1, active2, active3, active12, entry, rec, header, viewOf, seen, records, at}
@@ -71,31 +71,31 @@ applyingTo ok s k j =
 
 -- None applies; on a volume that isn't sound 1 alone; with client 2 marked, whose record is decided, 2 alone.
 none-applies : applyingTo true active1 1 4 ≡ replicate 7 []
-unfolding tests queryTests sessionFits markFits readsFit isReading isReadByOther freeSlots all
+unfolding tests queryTests sessionFits markFits clientHoldsFit isReading isReadByOther freeSlots all
 none-applies = refl
 
 one-applies : applyingTo false active1 1 4 ≡ replicate 7 (1 ∷ [])
-unfolding tests queryTests sessionFits markFits readsFit isReading isReadByOther freeSlots all
+unfolding tests queryTests sessionFits markFits clientHoldsFit isReading isReadByOther freeSlots all
 one-applies = refl
 
 two-applies : applyingTo true active12 1 4 ≡ replicate 7 (2 ∷ [])
-unfolding tests queryTests sessionFits markFits readsFit isReading isReadByOther freeSlots all
+unfolding tests queryTests sessionFits markFits clientHoldsFit isReading isReadByOther freeSlots all
 two-applies = refl
 
 -- 3: client 0, whose mark is read as client 1's. Client 1 holds file 1, so that 7 or 8 applies too.
 client-0 : applyingTo true active1 0 0 ≡ (3 ∷ 8 ∷ []) ∷ (3 ∷ 7 ∷ []) ∷ (3 ∷ 7 ∷ []) ∷ (3 ∷ 8 ∷ []) ∷ (3 ∷ []) ∷ (3 ∷ []) ∷ (3 ∷ 4 ∷ []) ∷ []
-unfolding tests queryTests sessionFits markFits readsFit isReading isReadByOther freeSlots all
+unfolding tests queryTests sessionFits markFits clientHoldsFit isReading isReadByOther freeSlots all
 client-0 = refl
 
 -- 3 and 5: a client above T.
 client-5 : applyingTo true active1 5 5
     ≡ (3 ∷ 5 ∷ 8 ∷ []) ∷ (3 ∷ 5 ∷ 7 ∷ []) ∷ (3 ∷ 5 ∷ 7 ∷ []) ∷ (3 ∷ 5 ∷ 8 ∷ []) ∷ (3 ∷ 5 ∷ []) ∷ (3 ∷ 5 ∷ []) ∷ (3 ∷ []) ∷ []
-unfolding tests queryTests sessionFits markFits readsFit isReading isReadByOther freeSlots all
+unfolding tests queryTests sessionFits markFits clientHoldsFit isReading isReadByOther freeSlots all
 client-5 = refl
 
 -- 5 and 4: client 4, which isn't marked; client 1 begins, which is.
 client-4 : applyingTo true active1 4 1 ≡ (5 ∷ 8 ∷ []) ∷ (5 ∷ 7 ∷ []) ∷ (5 ∷ 7 ∷ []) ∷ (5 ∷ 8 ∷ []) ∷ (5 ∷ []) ∷ (5 ∷ []) ∷ (4 ∷ []) ∷ []
-unfolding tests queryTests sessionFits markFits readsFit isReading isReadByOther freeSlots all
+unfolding tests queryTests sessionFits markFits clientHoldsFit isReading isReadByOther freeSlots all
 client-4 = refl
 
 -- Clients 1 and 3 have begun, and client 1 holds file 1.
@@ -106,21 +106,21 @@ at3 = seen (λ k. if member k (1 ∷ 3 ∷ []) then openRecord else idleRecord) 
 open-refused : map (λ f. applying (tests true at3 active3 (openFile 3 f))) (3 ∷ 2 ∷ 1 ∷ [])
     ++ (applying (tests true at3 (marks true false true false) (openFile 3 1)) ∷ [])
     ≡ (6 ∷ []) ∷ [] ∷ [] ∷ (7 ∷ []) ∷ []
-unfolding tests sessionFits markFits readsFit isReading isReadByOther all
+unfolding tests sessionFits markFits clientHoldsFit isReading isReadByOther all
 open-refused = refl
 
 -- The same of its open for reading.
 open-read-refused : map (λ f. applying (tests true at3 active3 (openRead 3 f))) (3 ∷ 2 ∷ 1 ∷ [])
     ++ (applying (tests true at3 (marks true false true false) (openRead 3 1)) ∷ [])
     ≡ (6 ∷ []) ∷ [] ∷ [] ∷ (7 ∷ []) ∷ []
-unfolding tests sessionFits markFits readsFit isReading all
+unfolding tests sessionFits markFits clientHoldsFit isReading all
 open-read-refused = refl
 
 -- 6, 8 and 9 of a read: file 3, which has no page; file 1 for client 3; page 1 of file 2.
 read-refused : applying (queryTests true (at 1) active1 (readPage 1 3 0)) ∷ applying (queryTests true at3 active3 (readPage 3 1 0))
     ∷ applying (queryTests true (at 1) active1 (readPage 1 2 1)) ∷ []
     ≡ (6 ∷ 8 ∷ 9 ∷ []) ∷ (8 ∷ []) ∷ (9 ∷ []) ∷ []
-unfolding queryTests sessionFits markFits readsFit isReading all
+unfolding queryTests sessionFits markFits clientHoldsFit isReading all
 read-refused = refl
 
 -- ------------------------------------------------------------------ reading holds
@@ -135,32 +135,32 @@ reading = reads (marks true true true false) (1 ∷ 1 ∷ 2 ∷ 0 ∷ [])
 read-by-others : map (λ k. applying (tests true begun reading (openFile k 1))) (1 ∷ 2 ∷ 3 ∷ [])
     ++ map (λ k. applying (tests true begun reading (openFile k 2))) (3 ∷ 1 ∷ [])
     ≡ (7 ∷ []) ∷ (7 ∷ []) ∷ (7 ∷ []) ∷ [] ∷ (7 ∷ []) ∷ []
-unfolding tests sessionFits markFits readsFit holdFits isReading isReadByOther all
+unfolding tests sessionFits markFits clientHoldsFit holdFits isReading isReadByOther all
 read-by-others = refl
 
 -- Reading is open to all of them.
 read-together : map (λ k. applying (tests true begun reading (openRead k 1))) (1 ∷ 2 ∷ 3 ∷ []) ≡ [] ∷ [] ∷ [] ∷ []
-unfolding tests sessionFits markFits readsFit holdFits isReading all
+unfolding tests sessionFits markFits clientHoldsFit holdFits isReading all
 read-together = refl
 
 -- 8 "accepts either hold": a read of file 1 by clients 1 and 3.
 read-held : map (λ k. applying (queryTests true begun reading (readPage k 1 0))) (1 ∷ 3 ∷ []) ≡ [] ∷ (8 ∷ []) ∷ []
-unfolding queryTests sessionFits markFits readsFit holdFits isReading all
+unfolding queryTests sessionFits markFits clientHoldsFit holdFits isReading all
 read-held = refl
 
 -- 16, "a write to a file held only for reading", and nothing else is wrong; a file that isn't held gets 8 alone.
 write-read-only : map (λ k. applying (tests true begun reading (write k 1 0 whole))) (1 ∷ 3 ∷ []) ≡ (16 ∷ []) ∷ (8 ∷ []) ∷ []
-unfolding tests sessionFits markFits readsFit holdFits isReading freeSlots all
+unfolding tests sessionFits markFits clientHoldsFit holdFits isReading freeSlots all
 write-read-only = refl
 
 -- It is given before 9 and 10, and after 8: page 3 and no bytes, of file 1 by client 1 and of file 2 by client 1.
 sixteen-first : map (λ f. first (tests true begun reading (write 1 f 3 []))) (1 ∷ 2 ∷ []) ≡ 16 ∷ 8 ∷ []
-unfolding tests sessionFits markFits readsFit holdFits isReading freeSlots all first
+unfolding tests sessionFits markFits clientHoldsFit holdFits isReading freeSlots all first
 sixteen-first = refl
 
 -- A writing hold beside a reading one, which refusal 2 is given for, isn't read-only.
 both-holds : applying (tests true (at 1) (reads active1 (1 ∷ 0 ∷ 0 ∷ 0 ∷ [])) (write 1 1 0 whole)) ≡ 2 ∷ []
-unfolding tests sessionFits markFits readsFit holdFits isReading freeSlots all
+unfolding tests sessionFits markFits clientHoldsFit holdFits isReading freeSlots all
 both-holds = refl
 
 -- ------------------------------------------------------------------ write
@@ -174,34 +174,34 @@ writing es m p d =
 write-refused : writing [] (0 ∷ 1 ∷ 2 ∷ []) 3 whole
     ∷ map (λ n. writing [] (0 ∷ 1 ∷ 2 ∷ []) 2 (replicate n 7)) (255 ∷ 256 ∷ 257 ∷ [])
     ≡ (9 ∷ []) ∷ (10 ∷ []) ∷ [] ∷ (10 ∷ []) ∷ []
-unfolding tests sessionFits markFits readsFit isReading freeSlots all
+unfolding tests sessionFits markFits clientHoldsFit isReading freeSlots all
 write-refused = refl
 
 -- 8 and 9 are about the file written: file 2, which client 2 doesn't hold; page 1 of file 2, which client 1 holds.
 other-file : applying (tests true (seen (λ k. openRecord) (header 2 (0 ∷ 1 ∷ 2 ∷ [])) (header 0 (0 ∷ []))) active2 (write 2 2 0 whole))
     ∷ applying (tests true (at 1) active1 (write 1 2 1 whole)) ∷ []
     ≡ (8 ∷ []) ∷ (9 ∷ []) ∷ []
-unfolding tests sessionFits markFits readsFit isReading freeSlots all
+unfolding tests sessionFits markFits clientHoldsFit isReading freeSlots all
 other-file = refl
 
 -- 11, "no entry yet: no real as described": page 0 has an entry, page 1 has none. With slot 5 free neither is refused.
 no-slot-free : map (λ p. writing (entry 1 0 4 ∷ []) (0 ∷ 1 ∷ 2 ∷ 3 ∷ 5 ∷ []) p whole) (0 ∷ 1 ∷ [])
     ++ map (λ p. writing (entry 1 0 4 ∷ []) (0 ∷ 1 ∷ 2 ∷ 3 ∷ []) p whole) (0 ∷ 1 ∷ [])
     ≡ [] ∷ (11 ∷ []) ∷ [] ∷ [] ∷ []
-unfolding tests sessionFits markFits readsFit isReading freeSlots all
+unfolding tests sessionFits markFits clientHoldsFit isReading freeSlots all
 no-slot-free = refl
 
 -- 12, "no entry yet: C is 62": 61 entries, 62, and 62 of which one is for the page.
 record-full : map (λ es. writing es (0 ∷ 1 ∷ 2 ∷ []) 2 whole)
     (replicate 61 (entry 1 0 4) ∷ replicate 62 (entry 1 0 4) ∷ (entry 1 2 4 ∷ replicate 61 (entry 1 0 4)) ∷ [])
     ≡ [] ∷ (12 ∷ []) ∷ [] ∷ []
-unfolding tests sessionFits markFits readsFit isReading freeSlots all
+unfolding tests sessionFits markFits clientHoldsFit isReading freeSlots all
 record-full = refl
 
 -- All of them at once: a new page of a file 9 for client 9, whose record is full.
 all-apply : applying (tests false (seen (λ k. rec 0 (replicate 62 (entry 1 0 4))) noHeader noHeader) active1 (write 9 9 9 []))
     ≡ 1 ∷ 2 ∷ 3 ∷ 5 ∷ 6 ∷ 8 ∷ 9 ∷ 10 ∷ 11 ∷ 12 ∷ []
-unfolding tests sessionFits markFits readsFit isReading freeSlots all
+unfolding tests sessionFits markFits clientHoldsFit isReading freeSlots all
 all-apply = refl
 
 -- ------------------------------------------------------------------ 11 and 12 together
@@ -220,9 +220,9 @@ full-lawful = refl
 
 -- The page of file 2 has no slot, and the record no place for its entry: both apply, and 11 is given.
 full-and-no-slot : applying (tests true full active1 (write 1 2 0 whole)) ≡ 11 ∷ 12 ∷ []
-unfolding tests sessionFits markFits readsFit isReading freeSlots all
+unfolding tests sessionFits markFits clientHoldsFit isReading freeSlots all
 full-and-no-slot = refl
 
 eleven-given : first (tests true full active1 (write 1 2 0 whole)) ≡ 11
-unfolding tests sessionFits markFits readsFit isReading freeSlots all first
+unfolding tests sessionFits markFits clientHoldsFit isReading freeSlots all first
 eleven-given = refl

@@ -11,7 +11,7 @@ use Rattle.lists.specs.Lists.{if_then_else_, all}
 use Rattle.byteset.specs.Bits.{withBit, withoutBit}
 use Rattle.sector.specs.Contents.{Table, Record, idleRecord, openRecord, decidedRecord}
 use Rattle.volume.specs.Views.{noHeader}
-use Rattle.rules.specs.Sessions.{isActive, setActive, noneActive, isReading, withReading, withoutReading, withoutReader, isReadByOther, isOrphaned, holds, holdsEither, markFits, holdFits, readsFit, sessionFits}
+use Rattle.rules.specs.Sessions.{isActive, setActive, noneActive, isReading, withReading, withoutReading, withoutReader, isReadByOther, isOrphaned, holds, holdsEither, markFits, holdFits, clientHoldsFit, sessionFits}
 use Rattle.rules.proofs.ExampleViews.{marks, reads, active1, active2, active3, active4, active12, entry, rec, header, viewOf, seen, records, at}
 
 -- ------------------------------------------------------------------ marks
@@ -97,11 +97,11 @@ mark-own = refl
 
 -- Each mark by itself is tested; a client that isn't marked isn't.
 session-fits : map (sessionFits (seen (λ k. idleRecord) noHeader noHeader)) singles ≡ true ∷ false ∷ false ∷ false ∷ false ∷ []
-unfolding sessionFits markFits readsFit isReading all
+unfolding sessionFits markFits clientHoldsFit isReading all
 session-fits = refl
 
 all-four-fit : sessionFits (seen (λ k. openRecord) noHeader noHeader) (marks true true true true) ≡ true
-unfolding sessionFits markFits readsFit isReading all
+unfolding sessionFits markFits clientHoldsFit isReading all
 all-four-fit = refl
 
 -- T clients and one file that nobody holds. Client 4, alone marked, has this record.
@@ -112,12 +112,12 @@ fourth T r =
 
 -- "a kiln above T", though its record is open.
 above-T : fourth 3 openRecord ≡ false
-unfolding sessionFits markFits readsFit isReading all
+unfolding sessionFits markFits clientHoldsFit isReading all
 above-T = refl
 
 -- "T, the kilns, 1 to 4": client 4 is one, and fits if its record is open.
 at-T : map (fourth 4) (idleRecord ∷ openRecord ∷ decidedRecord openRecord ∷ []) ≡ false ∷ true ∷ false ∷ []
-unfolding sessionFits markFits readsFit isReading all
+unfolding sessionFits markFits clientHoldsFit isReading all
 at-T = refl
 
 -- ------------------------------------------------------------------ refusal 2, of reading holds
@@ -130,14 +130,14 @@ fourthReads holder b word =
 -- File 1 and both files; "of an unmarked kiln"; "of a file above F": file 3, and file 16.
 holds-fit : fourthReads 0 true 1 ∷ fourthReads 0 true 3 ∷ fourthReads 0 false 1 ∷ fourthReads 0 true 4 ∷ fourthReads 0 true 32768 ∷ []
     ≡ true ∷ true ∷ false ∷ false ∷ false ∷ []
-unfolding sessionFits markFits readsFit holdFits isReading all
+unfolding sessionFits markFits clientHoldsFit holdFits isReading all
 holds-fit = refl
 
 -- "of a file whose header names a holder": an active one, client 1; an orphaned one, client 2; the reader itself. The other file
 -- may be held.
 holder-named : map (λ h. fourthReads h true 2) (1 ∷ 2 ∷ 4 ∷ []) ++ (fourthReads 1 true 1 ∷ [])
     ≡ false ∷ false ∷ false ∷ true ∷ []
-unfolding sessionFits markFits readsFit holdFits isReading all
+unfolding sessionFits markFits clientHoldsFit holdFits isReading all
 holder-named = refl
 
 -- Each client's holds are tested, marked or not, and several clients may read one file.
@@ -145,10 +145,10 @@ every-client : map (sessionFits (seen (λ k. openRecord) (header 0 (1 ∷ 5 ∷ 
     (reads active2 (1 ∷ 0 ∷ 0 ∷ 0 ∷ []) ∷ reads active1 (0 ∷ 1 ∷ 0 ∷ 0 ∷ []) ∷ reads active1 (0 ∷ 0 ∷ 1 ∷ 0 ∷ [])
     ∷ reads (marks true true true true) (1 ∷ 1 ∷ 1 ∷ 1 ∷ []) ∷ [])
     ≡ false ∷ false ∷ false ∷ true ∷ []
-unfolding sessionFits markFits readsFit holdFits isReading all
+unfolding sessionFits markFits clientHoldsFit holdFits isReading all
 every-client = refl
 
 -- A session with holds and no mark fits no volume.
 holds-alone : sessionFits (seen (λ k. openRecord) (header 0 (1 ∷ 5 ∷ 2 ∷ [])) noHeader) (reads newSession (1 ∷ 0 ∷ 0 ∷ 0 ∷ [])) ≡ false
-unfolding sessionFits markFits readsFit holdFits isReading all
+unfolding sessionFits markFits clientHoldsFit holdFits isReading all
 holds-alone = refl

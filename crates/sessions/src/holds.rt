@@ -17,7 +17,8 @@ fn mask(f: u8) -> u16
     1u16 << i
 }
 
-// Whether client k holds file f for reading.
+// Whether client k holds file f for reading. Ruled out: another file's bit (`must-fail/files_from_the_top`); the word of
+// another client.
 pub fn is_reading(s: Session, k: u8, f: u8) -> bool
     requires { ⌜ (1 ≤ k) × (k ≤ 4) × (1 ≤ f) × (f ≤ 16) ⌝ }
     ensures { λ r. ⌜ r ≡ isReading s k f ⌝ }
@@ -39,23 +40,25 @@ pub fn with_reading(mut s: Session, k: u8, f: u8) -> Session
 }
 
 // A word of holds as a number.
-pub fn wide(word: u16) -> usize
+pub fn number_of(word: u16) -> u64
     ensures { λ r. ⌜ (r ≡ word) × (r < 2 ^ 16) ⌝ }
 {
-    word as usize
+    word as u64
 }
 
-// The four words of holds as one number. Most sessions have no hold, so whether it is 0 is looked at first.
-pub fn all_holds(s: Session) -> usize
+// A number that is 0 just where the session has no reading hold: its four words as one. Most sessions have none, so this
+// is looked at first.
+pub fn all_holds(s: Session) -> u64
     ensures { λ r. ⌜ eqb r 0 ≡ every (λ k. eqb (filesRead s k) 0) (from 1 4) ⌝ }
 {
-    wide(s.reading[0])
-        + 65536 * wide(s.reading[1])
-        + 4294967296 * wide(s.reading[2])
-        + 281474976710656 * wide(s.reading[3])
+    number_of(s.reading[0])
+        + 65536 * number_of(s.reading[1])
+        + 4294967296 * number_of(s.reading[2])
+        + 281474976710656 * number_of(s.reading[3])
 }
 
-// The session without it.
+// The session without client k's reading hold of file f. Ruled out: the hold of another file ended
+// (`must-fail/file_1_ended`); the hold kept.
 pub fn without_reading(s: Session, k: u8, f: u8) -> Session
     requires { ⌜ (1 ≤ k) × (k ≤ 4) × (1 ≤ f) × (f ≤ 16) ⌝ }
     ensures { λ r. ⌜ r ≡ withoutReading s k f ⌝ }
@@ -66,6 +69,7 @@ pub fn without_reading(s: Session, k: u8, f: u8) -> Session
     cleared(s, k, f)
 }
 
+// The same, where there may be holds: the bit of file f is taken out of client k's word.
 fn cleared(mut s: Session, k: u8, f: u8) -> Session
     requires { ⌜ (1 ≤ k) × (k ≤ 4) × (1 ≤ f) × (f ≤ 16) ⌝ }
     ensures { λ r. ⌜ r ≡ withoutReading s k f ⌝ }

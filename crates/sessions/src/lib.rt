@@ -19,7 +19,7 @@ ghost use Rattle.volume.specs.Volumes.{view};
 ghost use Rattle.volume.specs.WellFormed.{WellFormed};
 ghost use Rattle.rules.specs.Sessions.{sessionFits};
 
-// Whether the session fits the volume. Ruled out: the marks alone looked at; the holds alone.
+// Whether the session fits the volume. Ruled out: what `marks_fit` and `holds_fit` name.
 pub fn session_fits(v: &[u8], s: Session) -> bool
     requires { ⌜ WellFormed (now v) ⌝ }
     ensures { λ r. ⌜ r ≡ sessionFits (view (now (v .entry))) s ⌝ }

@@ -25,24 +25,24 @@ no-word a b c d =
     turned true true true true = refl
 
 add-result : tie.Need-add-result
-add-result c = omega (arith, c .wide2 .ensures .1, c .before .before .wide .ensures .1)
+add-result c = omega (arith, c .number-of2 .ensures .1, c .before .before .number-of .ensures .1)
 
 mul-result-2 : tie.Need-mul-result-2
-mul-result-2 c = omega (arith, c .wide3 .ensures .1)
+mul-result-2 c = omega (arith, c .number-of3 .ensures .1)
 
 add-result-2 : tie.Need-add-result-2
 add-result-2 c =
     let c2 = c .before .before in
-    omega (arith, c .wide3 .ensures .1, c2 .wide2 .ensures .1, c2 .before .before .wide .ensures .1)
+    omega (arith, c .number-of3 .ensures .1, c2 .number-of2 .ensures .1, c2 .before .before .number-of .ensures .1)
 
 mul-result-3 : tie.Need-mul-result-3
-mul-result-3 c = omega (arith, c .wide4 .ensures .1)
+mul-result-3 c = omega (arith, c .number-of4 .ensures .1)
 
 add-result-3 : tie.Need-add-result-3
 add-result-3 c =
     let c3 = c .before .before in
     let c2 = c3 .before .before in
-    omega (arith, c .wide4 .ensures .1, c3 .wide3 .ensures .1, c2 .wide2 .ensures .1, c2 .before .before .wide .ensures .1)
+    omega (arith, c .number-of4 .ensures .1, c3 .number-of3 .ensures .1, c2 .number-of2 .ensures .1, c2 .before .before .number-of .ensures .1)
 
 returns : tie.Need-returns
 returns c =
@@ -50,10 +50,10 @@ returns c =
     let c2 = c3 .before .before in
     let c1 = c2 .before .before in
     let s = c1 .before .before .args .t1 in
-    rw (c .wide4 .ensures .0, c3 .wide3 .ensures .0, c2 .wide2 .ensures .0, c1 .wide .ensures .0)
+    rw (c .number-of4 .ensures .0, c3 .number-of3 .ensures .0, c2 .number-of2 .ensures .0, c1 .number-of .ensures .0)
     (no-word (filesRead s 1) (filesRead s 2) (filesRead s 3) (filesRead s 4))
 
 pub all-holds-spec : {M : Type 1} → statement M
 all-holds-spec = tie.close (tie.spec (λ c. search needs) (λ c κs. search needs) (λ c. search needs) (λ c κs. search needs)
-    (λ c. omega (arith, c .wide2 .ensures .1)) add-result (λ c. search needs) (λ c κs. search needs) mul-result-2 add-result-2 (λ c. search needs)
+    (λ c. omega (arith, c .number-of2 .ensures .1)) add-result (λ c. search needs) (λ c κs. search needs) mul-result-2 add-result-2 (λ c. search needs)
     (λ c κs. search needs) mul-result-3 add-result-3 returns)
