@@ -1,4 +1,4 @@
-// The calls on a volume. Each tests its own arguments and refuses by the lowest number that applies, before any store;
+// The calls on a volume. Each tests its own arguments and refuses by the first refusal that applies, before any store;
 // then it makes the stores of its plan, as many as the budget allows.
 mod reply;
 

@@ -51,7 +51,7 @@ fn check_free(v: &[u8], s: Session, k: u8, f: u8) -> Verdict
 }
 
 // Tests 6 and 7 of open for reading: file f exists, and no other active client holds it for writing.
-fn check_unwritten(v: &[u8], s: Session, k: u8, f: u8) -> Verdict
+fn check_no_writer(v: &[u8], s: Session, k: u8, f: u8) -> Verdict
     requires { ⌜ sound (now v) ≡ true ⌝ }
     ensures { λ r. ⌜ numberOf r ≡ first (openReadTests (view (now (v .entry))) s k f) ⌝ }
 {
@@ -76,12 +76,12 @@ pub fn check_open(v: &[u8], s: Session, k: u8, f: u8) -> Verdict
 }
 
 // The tests of open for reading. Ruled out: a file that another active client writes accepted
-// (`rules/must-fail/read_beside_writer`); one that others read refused.
+// (`rules/must-fail/read_beside_writer`); one that others read refused (`rules/must-fail/readers_exclude`).
 pub fn check_open_read(v: &[u8], s: Session, k: u8, f: u8) -> Verdict
     ensures { λ r. ⌜ numberOf r ≡ first (tests (sound (now (v .entry))) (view (now (v .entry))) s (openRead k f)) ⌝ }
 {
     match check_active(v, s, k) {
         Verdict::Refused(r) => Verdict::Refused(r),
-        Verdict::Accepted => check_unwritten(v, s, k, f),
+        Verdict::Accepted => check_no_writer(v, s, k, f),
     }
 }

@@ -1,4 +1,4 @@
-// The tests of a page that is read, and those of write up to its page.
+// The tests of a page that is held, and those of read.
 use crate::Verdict;
 use crate::call::check_active;
 use crate::call::is_file;
@@ -7,7 +7,7 @@ use interface::Session;
 use sessions::is_reading;
 ghost use mathlib.Core.Path.{_≡_};
 ghost use mathlib.Core.Bool.{true};
-ghost use mathlib.Core.List.{[], _∷_, _++_};
+ghost use mathlib.Core.List.{[], _∷_};
 ghost use Prim.Native.Nat.{_≤_};
 ghost use Rattle.lists.specs.Lists.{first};
 ghost use Rattle.sector.specs.Contents.{Table};
@@ -17,7 +17,7 @@ ghost use Rattle.volume.specs.Volumes.{view};
 ghost use Rattle.volume.specs.Sound.{sound};
 ghost use Rattle.rules.specs.Sessions.{holdsEither};
 ghost use Rattle.rules.specs.Plans.{readPage};
-ghost use Rattle.rules.specs.Refusals.{pageMissing, activeTests, heldTests, readTests, writeTests, queryTests};
+ghost use Rattle.rules.specs.Refusals.{pageMissing, heldTests, readTests, queryTests};
 ghost use Rattle.checks.specs.Verdicts.{numberOf};
 
 // Whether client k holds file f, for writing or for reading.
@@ -32,7 +32,7 @@ pub fn holds_either(v: &[u8], s: Session, k: u8, f: u8) -> bool
 }
 
 // Tests 6 and 8: file f exists, and client k holds it.
-fn check_held(v: &[u8], s: Session, k: u8, f: u8) -> Verdict
+pub fn check_held(v: &[u8], s: Session, k: u8, f: u8) -> Verdict
     requires { ⌜ (sound (now v) ≡ true) × (1 ≤ k) × (k ≤ 4) ⌝ }
     ensures { λ r. ⌜ numberOf r ≡ first (heldTests (view (now (v .entry))) s k f) ⌝ }
 {
@@ -46,7 +46,7 @@ fn check_held(v: &[u8], s: Session, k: u8, f: u8) -> Verdict
 }
 
 // Test 9: file f has page p.
-fn check_page(v: &[u8], f: u8, p: u8) -> Verdict
+pub fn check_page(v: &[u8], f: u8, p: u8) -> Verdict
     requires { ⌜ (sound (now v) ≡ true) × IsFile (view (now v) .table) f ⌝ }
     ensures { λ r. ⌜ numberOf r ≡ first (pageMissing (view (now (v .entry))) f p ∷ []) ⌝ }
 {
@@ -67,38 +67,13 @@ fn check_read_page(v: &[u8], s: Session, k: u8, f: u8, p: u8) -> Verdict
     }
 }
 
-// Tests 6, 8, 16 and 9: 16 is that client k holds file f for reading only.
-fn check_write_page(v: &[u8], s: Session, k: u8, f: u8, p: u8) -> Verdict
-    requires { ⌜ (sound (now v) ≡ true) × (1 ≤ k) × (k ≤ 4) ⌝ }
-    ensures { λ r. ⌜ numberOf r ≡ first (writeTests (view (now (v .entry))) s k f p) ⌝ }
-{
-    match check_held(v, s, k, f) {
-        Verdict::Refused(r) => Verdict::Refused(r),
-        Verdict::Accepted => {
-            if volume::holder(v, f) != k {
-                return Verdict::Refused(Refusal::ReadOnly);
-            }
-            check_page(v, f, p)
-        }
-    }
-}
-
-// The tests of read.
+// The tests of read. Ruled out: a file that the client holds for reading refused by 8
+// (`rules/must-fail/reader_not_held`); a page past the last one accepted.
 pub fn check_read(v: &[u8], s: Session, k: u8, f: u8, p: u8) -> Verdict
     ensures { λ r. ⌜ numberOf r ≡ first (queryTests (sound (now (v .entry))) (view (now (v .entry))) s (readPage k f p)) ⌝ }
 {
     match check_active(v, s, k) {
         Verdict::Refused(r) => Verdict::Refused(r),
         Verdict::Accepted => check_read_page(v, s, k, f, p),
-    }
-}
-
-// The tests of write up to 9.
-pub fn check_written(v: &[u8], s: Session, k: u8, f: u8, p: u8) -> Verdict
-    ensures { λ r. ⌜ numberOf r ≡ first (activeTests (sound (now (v .entry))) (view (now (v .entry))) s k ++ writeTests (view (now (v .entry))) s k f p) ⌝ }
-{
-    match check_active(v, s, k) {
-        Verdict::Refused(r) => Verdict::Refused(r),
-        Verdict::Accepted => check_write_page(v, s, k, f, p),
     }
 }

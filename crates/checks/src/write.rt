@@ -1,7 +1,9 @@
 // The tests of write, and where its page goes.
 use crate::Verdict;
 use crate::WriteVerdict;
-use crate::page::check_written;
+use crate::call::check_active;
+use crate::page::check_held;
+use crate::page::check_page;
 use interface::Refusal;
 use interface::Session;
 use sector::Limits;
@@ -11,8 +13,9 @@ use slots::find_entry;
 use slots::free_slot;
 ghost use mathlib.Core.Path.{_≡_};
 ghost use mathlib.Core.Bool.{true};
-ghost use mathlib.Core.List.{[], _∷_};
+ghost use mathlib.Core.List.{[], _∷_, _++_};
 ghost use mathlib.Core.Option.{none};
+ghost use Prim.Native.Nat.{_≤_};
 ghost use Rattle.lists.specs.Lists.{first};
 ghost use Rattle.sector.specs.Contents.{Table};
 ghost use Rattle.volume.specs.Places.{IsClient, IsPage};
@@ -21,8 +24,35 @@ ghost use Rattle.volume.specs.Volumes.{view};
 ghost use Rattle.volume.specs.Sound.{sound};
 ghost use Rattle.volume.specs.WellFormed.{WellFormed};
 ghost use Rattle.rules.specs.Plans.{write, chosen};
-ghost use Rattle.rules.specs.Refusals.{isNewPage, noFreeSlot, recordFull, slotTests, tests};
+ghost use Rattle.rules.specs.Refusals.{isNewPage, noFreeSlot, recordFull, activeTests, writeTests, slotTests, tests};
+ghost use Rattle.checks.specs.Verdicts.{numberOf};
 ghost use Rattle.checks.specs.Writes.{writeFound, answerBy, writeAnswer};
+
+// Tests 6, 8, 16 and 9: 16 is that client k holds file f for reading only.
+fn check_write_page(v: &[u8], s: Session, k: u8, f: u8, p: u8) -> Verdict
+    requires { ⌜ (sound (now v) ≡ true) × (1 ≤ k) × (k ≤ 4) ⌝ }
+    ensures { λ r. ⌜ numberOf r ≡ first (writeTests (view (now (v .entry))) s k f p) ⌝ }
+{
+    match check_held(v, s, k, f) {
+        Verdict::Refused(r) => Verdict::Refused(r),
+        Verdict::Accepted => {
+            if volume::holder(v, f) != k {
+                return Verdict::Refused(Refusal::ReadOnly);
+            }
+            check_page(v, f, p)
+        }
+    }
+}
+
+// The tests of write up to 9.
+fn check_write_call(v: &[u8], s: Session, k: u8, f: u8, p: u8) -> Verdict
+    ensures { λ r. ⌜ numberOf r ≡ first (activeTests (sound (now (v .entry))) (view (now (v .entry))) s k ++ writeTests (view (now (v .entry))) s k f p) ⌝ }
+{
+    match check_active(v, s, k) {
+        Verdict::Refused(r) => Verdict::Refused(r),
+        Verdict::Accepted => check_write_page(v, s, k, f, p),
+    }
+}
 
 // Tests 11 and 12 of a page that record k has no entry for: file f has a free slot, and the record has room.
 fn new_slot(v: &[u8], k: u8, f: u8, p: u8) -> WriteVerdict
@@ -55,11 +85,11 @@ fn check_slot(v: &[u8], k: u8, f: u8, p: u8, bytes: &[u8]) -> WriteVerdict
 }
 
 // The tests of write, and where the page goes. Ruled out: 16 tested after 9 (`rules/must-fail/sixteen_after_nine`); a file
-// held for reading only accepted.
+// held for reading only accepted (`must-fail/reader_writes`).
 pub fn check_write(v: &[u8], s: Session, k: u8, f: u8, p: u8, bytes: &[u8]) -> WriteVerdict
     ensures { λ r. ⌜ writeFound r ≡ writeAnswer (first (tests (sound (now (v .entry))) (view (now (v .entry))) s (write k f p (now (bytes .entry))))) (view (now (v .entry))) k f p ⌝ }
 {
-    match check_written(v, s, k, f, p) {
+    match check_write_call(v, s, k, f, p) {
         Verdict::Refused(r) => WriteVerdict::Refused(r),
         Verdict::Accepted => check_slot(v, k, f, p, bytes),
     }

@@ -110,8 +110,8 @@ plan a s (commit k) = setRecord k (decidedRecord (a .records k)) ∷ recovery tr
 plan a s (abort k) = recovery false a k
 
 -- The session that a call hands back when it is done: begin marks k, commit and abort unmark k. M-102: "Commit and abort end" k's
--- reading holds. A client that opens a file for writing, "its reading hold ends then". Opening for reading notes the hold, unless k
--- "already holds" the file.
+-- reading holds. When k opens a file for writing, "its reading hold ends then". Opening for reading notes the hold, unless k "already
+-- holds" the file.
 abbrev pub sessionAfter : View → Session → Call → Session
 sessionAfter a s (begin k) = setActive s k true
 sessionAfter a s (openFile k f) = withoutReading s k f

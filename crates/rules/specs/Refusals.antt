@@ -59,8 +59,8 @@ abbrev pub fileInUse : View → Session → ℕ → ℕ → Test
 fileInUse a s k f = (7, heldByOther a s k f || isReadByOther s k f)
 
 -- M-102: "and reading while another marked kiln writes".
-abbrev pub fileWritten : View → Session → ℕ → ℕ → Test
-fileWritten a s k f = (7, heldByOther a s k f)
+abbrev pub fileHasWriter : View → Session → ℕ → ℕ → Test
+fileHasWriter a s k f = (7, heldByOther a s k f)
 
 -- "read, write: k doesn't hold f"; M-102: "accepts either hold".
 abbrev pub notHeld : View → Session → ℕ → ℕ → Test
@@ -100,7 +100,7 @@ openTests a s k f = fileMissing a f ∷ fileInUse a s k f ∷ []
 
 -- Of a file that it opens for reading.
 abbrev pub openReadTests : View → Session → ℕ → ℕ → List Test
-openReadTests a s k f = fileMissing a f ∷ fileWritten a s k f ∷ []
+openReadTests a s k f = fileMissing a f ∷ fileHasWriter a s k f ∷ []
 
 -- Of a file that it reads or writes.
 abbrev pub heldTests : View → Session → ℕ → ℕ → List Test

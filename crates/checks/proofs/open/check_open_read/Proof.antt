@@ -6,9 +6,9 @@ use Rattle.checks.proofs.VerdictLaws.{accepted, refuses, accepts, activ
 use Rattle.checks.proofs.open.check_open_read.Statement.{statement}
 use Rattle.checks.proofs.open.check_open_read.Tie as tie
 
-check-unwritten-requires : tie.Need-check-unwritten-requires
+check-no-writer-requires : tie.Need-check-no-writer-requires
 unfolding tests
-check-unwritten-requires c κs =
+check-no-writer-requires c κs =
     let q = c .before .before in
     let s = q .before .before in
     active-client (s .args .v .now) (s .args .s) (s .args .k) (accepted _ (c .enum-told .given .1) (q .check-active .ensures)) .0
@@ -19,7 +19,7 @@ returns c = refuses _ _ (c .before .r .given .1) (c .before .before .before .che
 
 returns-2 : tie.Need-returns-2
 unfolding tests
-returns-2 c = accepts _ _ (c .before .enum-told .given .1) (c .before .before .before .check-active .ensures) refl (c .check-unwritten .ensures)
+returns-2 c = accepts _ _ (c .before .enum-told .given .1) (c .before .before .before .check-active .ensures) refl (c .check-no-writer .ensures)
 
 pub check-open-read-spec : {M : Type 1} → statement M
-check-open-read-spec = tie.close (tie.spec (λ c κs. search needs) (λ c. search needs) (λ c. search needs) check-unwritten-requires returns returns-2)
+check-open-read-spec = tie.close (tie.spec (λ c κs. search needs) (λ c. search needs) (λ c. search needs) check-no-writer-requires returns returns-2)

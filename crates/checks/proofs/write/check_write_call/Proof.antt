@@ -1,10 +1,10 @@
--- `check_written` meets its contract: the tests of an active client, then those of the page.
+-- `check_write_call` meets its contract: the tests of an active client, then those of the page.
 use mathlib.Core.Path.{refl}
 use borrow.Author.Needs.{needs}
 use Rattle.rules.specs.Refusals.{tests}
 use Rattle.checks.proofs.VerdictLaws.{accepted, refuses, accepts, active-client}
-use Rattle.checks.proofs.page.check_written.Statement.{statement}
-use Rattle.checks.proofs.page.check_written.Tie as tie
+use Rattle.checks.proofs.write.check_write_call.Statement.{statement}
+use Rattle.checks.proofs.write.check_write_call.Tie as tie
 
 check-write-page-requires : tie.Need-check-write-page-requires
 unfolding tests
@@ -21,5 +21,5 @@ returns-2 : tie.Need-returns-2
 unfolding tests
 returns-2 c = accepts _ _ (c .before .enum-told .given .1) (c .before .before .before .check-active .ensures) refl (c .check-write-page .ensures)
 
-pub check-written-spec : {M : Type 1} → statement M
-check-written-spec = tie.close (tie.spec (λ c κs. search needs) (λ c. search needs) (λ c. search needs) check-write-page-requires returns returns-2)
+pub check-write-call-spec : {M : Type 1} → statement M
+check-write-call-spec = tie.close (tie.spec (λ c κs. search needs) (λ c. search needs) (λ c. search needs) check-write-page-requires returns returns-2)

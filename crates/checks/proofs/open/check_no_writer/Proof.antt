@@ -1,12 +1,12 @@
--- `check_unwritten` meets its contract: the first test that fails gives its number.
+-- `check_no_writer` meets its contract: the first test that fails gives its number.
 use mathlib.Core.Path.{sym, _∙_}
 use borrow.Author.Tests.{not-true, not-false}
 use Rattle.lists.specs.Lists.{first}
 use Rattle.volume.specs.Volumes.{view}
 use Rattle.volume.proofs.PlaceLaws.{file-of}
 use Rattle.volume.proofs.WellFormedLaws.{sound-formed}
-use Rattle.checks.proofs.open.check_unwritten.Statement.{statement}
-use Rattle.checks.proofs.open.check_unwritten.Tie as tie
+use Rattle.checks.proofs.open.check_no_writer.Statement.{statement}
+use Rattle.checks.proofs.open.check_no_writer.Tie as tie
 
 is-file-requires : tie.Need-is-file-requires
 is-file-requires c κs = sound-formed (c .before .args .v .now) (c .before .pre)
@@ -32,5 +32,5 @@ returns-3 c =
     let o = c .before .before in
     rw (sym (o .before .is-file .ensures) ∙ not-false _ (o .if1 .left), sym (c .before .held-by-other .ensures) ∙ c .if2 .left)
 
-pub check-unwritten-spec : {M : Type 1} → statement M
-check-unwritten-spec = tie.close (tie.spec is-file-requires returns held-by-other-requires returns-2 returns-3)
+pub check-no-writer-spec : {M : Type 1} → statement M
+check-no-writer-spec = tie.close (tie.spec is-file-requires returns held-by-other-requires returns-2 returns-3)

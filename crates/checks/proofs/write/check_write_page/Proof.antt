@@ -7,8 +7,8 @@ use Rattle.volume.proofs.WellFormedLaws.{sound-formed}
 use Rattle.volume.specs.Volumes.{view}
 use Rattle.rules.specs.Refusals.{pageMissing}
 use Rattle.checks.proofs.VerdictLaws.{accepted, refuses, accepts, held-file, only-read, not-only-read}
-use Rattle.checks.proofs.page.check_write_page.Statement.{statement}
-use Rattle.checks.proofs.page.check_write_page.Tie as tie
+use Rattle.checks.proofs.write.check_write_page.Statement.{statement}
+use Rattle.checks.proofs.write.check_write_page.Tie as tie
 
 holder-requires : tie.Need-holder-requires
 holder-requires c κs =
