@@ -10,6 +10,7 @@ pub mod Theorem
 pub mod TranscriptLaws
 pub mod ReturnLaws
 pub mod HoldLaws
+pub mod StayLaws
 pub mod NonVacuity
 pub mod ReaderLaws
 pub mod FreshLaws

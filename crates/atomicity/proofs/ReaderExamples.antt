@@ -1,23 +1,24 @@
 -- What `Readers` asks, on a small volume: a model that shows another page, a read that hands back nothing, and a page that changes
--- while it is read each contradict it; and each claim has its instance. The checker evaluates both sides.
+-- while it is read each contradict it; and each claim has its instance, for every client, file and page. The checker evaluates both sides.
 use mathlib.Core.Path.{_≡_, refl, sym, ap}
 use mathlib.Core.Bool.{Bool, true, false, false≢true}
-use mathlib.Core.List.{List, [], _∷_, map}
+use mathlib.Core.List.{List, [], _∷_, _++_, map}
+use mathlib.Core.Logic.{_≢_}
 use Prim.Native.Nat.{ℕ}
 use native.Mathlib.Omega.{arith}
 use lib.Dec.{eqb}
 use lib.ListN.{getD, replicate, set}
 use Rattle.interface.specs.declared.Session.{Session}
-use Rattle.interface.specs.Answers.{newSession, done}
+use Rattle.interface.specs.Answers.{newSession, done, crashed, found, queryRefused}
 use Rattle.lists.specs.Lists.{all, first}
 use Rattle.byteset.specs.Bits.{withBit}
-use Rattle.sector.specs.Contents.{Bytes, openRecord}
+use Rattle.sector.specs.Contents.{Bytes, Table, openRecord}
 use Rattle.sector.specs.Entries.{redone}
 use Rattle.sector.specs.Sectors.{sector, storeAt, padded}
 use Rattle.sector.specs.Shapes.{filesOf}
 use Rattle.sector.specs.Encoding.{fileBytes, encodeTable, entryBytes, encodeRecord, encodeHeader}
 use Rattle.sector.specs.Decoding.{decodeFiles, decodeTable, decodeEntries, decodeRecord, decodeHeader}
-use Rattle.volume.specs.Places.{sectorAfter, IsClient, IsPage}
+use Rattle.volume.specs.Places.{sectorAfter, IsClient, IsFile, IsPage}
 use Rattle.volume.specs.Views.{View}
 use Rattle.volume.specs.Volumes.{Volume, tableOf, recordIn, headerIn, slotIn, view}
 use Rattle.volume.specs.Stores.{cutAt, allStores}
@@ -26,15 +27,15 @@ use Rattle.volume.specs.Sound.{encoded, canonical, sound}
 use Rattle.volume.specs.Format.{lengthFits, shapeFits, endFits, formatTests, repeated, newFiles, newVolume, format}
 use Rattle.rules.specs.Sessions.{isReading, markFits, holdFits, clientHoldsFit, sessionFits}
 use Rattle.rules.specs.Recovery.{heldFiles, recovery}
-use Rattle.rules.specs.Plans.{begin, openRead, commit, readPage, beginPlan, openReadPlan, plan}
+use Rattle.rules.specs.Plans.{Call, begin, openFile, openRead, write, commit, abort, readPage, beginPlan, openReadPlan, plan}
 use Rattle.rules.specs.Refusals.{tests, queryTests}
 use Rattle.rules.specs.Content.{decidedContent}
-use Rattle.rules.specs.Calls.{call, query}
+use Rattle.rules.specs.Calls.{After, call, query}
 use Rattle.rules.proofs.ExampleViews.{reads, active1, active12}
-use Rattle.atomicity.specs.Model.{Model, newModel, modelCall}
+use Rattle.atomicity.specs.Model.{Model, newModel, shown, modelCall}
 use Rattle.atomicity.specs.Runs.{Step, calls, asks, Configuration, started, stepped, ranOver}
 use Rattle.atomicity.specs.NonVacuity.{calledAll, answersTo}
-use Rattle.atomicity.specs.Readers.{givenTo, ReadersShown, StepSteady, Steadily, ReadersSteady, ReadsThrough, SteadyWhile, sharing, ReadersShare}
+use Rattle.atomicity.specs.Readers.{givenTo, Finds, ReadersShown, Unchanged, StepSteady, endsHold, HoldsStay, Steadily, ReadersSteady, ReadsThrough, SteadyWhile, sharing, ReadersShare}
 use Rattle.atomicity.proofs.StatementExamples.{shape, table, fresh, page, pending7, run}
 
 -- The session that a step is given: that of the configuration, or a new one after a crash.
@@ -66,10 +67,10 @@ wrong-shown : ReadersShown table (run begun both (record { pages = λ f p. page 
 unfolding sessionFits markFits clientHoldsFit holdFits isReading sound lawful canonical encoded all view tableOf recordIn headerIn slotIn decodeTable decodeFiles decodeRecord decodeEntries decodeHeader sector storeAt newVolume newFiles repeated sectorAfter encodeTable fileBytes encodeRecord entryBytes encodeHeader padded
 wrong-shown h = false≢true (ap startsWith7 (sym (h 2 1 0 client2 page0 refl .0)))
 
--- A read that is refused, as the volume isn't sound: it hands back nothing.
-wrong-part : ReadersShown table (run (set begun 0 0) both newModel) (calls false (begin 1) 3) → ⊥
+-- A read that is refused, as the volume isn't sound: it finds nothing, and hands back nothing.
+wrong-part : ReadersShown table (run (set begun 0 0) both newModel) (asks false (readPage 1 1 0)) → ⊥
 unfolding query queryTests first sessionFits markFits clientHoldsFit holdFits isReading sound lawful canonical encoded all view tableOf recordIn headerIn slotIn decodeTable decodeFiles decodeRecord decodeEntries decodeHeader sector storeAt newVolume newFiles repeated sectorAfter encodeTable fileBytes encodeRecord entryBytes encodeHeader padded
-wrong-part h = false≢true (ap (λ (d : Bytes). eqb (getD d 0 1) 0) (h 2 1 0 client2 page0 refl .1))
+wrong-part h = false≢true (ap (λ (d : Bytes). eqb (getD d 0 1) 0) (h 2 1 0 client2 page0 refl .2))
 
 -- Client 1 commits sevens for a page that client 2 reads, before and after it: what client 2 is shown changes. Such pages aren't
 -- pending in any run.
@@ -77,15 +78,37 @@ page-changes : StepSteady table (run begun both pending7) (calls false (commit 1
 unfolding stepped modelCall call tests plan recovery heldFiles redone cutAt allStores first sessionFits markFits clientHoldsFit holdFits isReading sound lawful canonical encoded all view tableOf recordIn headerIn slotIn decodeTable decodeFiles decodeRecord decodeEntries decodeHeader sector storeAt newVolume newFiles repeated sectorAfter encodeTable fileBytes encodeRecord entryBytes encodeHeader padded
 page-changes h = false≢true (ap startsWith7 (sym (h 2 1 0 client2 page0 refl refl .1)))
 
--- Each step is asked about, the later ones from what the earlier left.
-asked-later : (r : Configuration) (x y : Step) → Steadily table r (x ∷ y ∷ []) → ReadersShown table (stepped r x) y × StepSteady table (stepped r x) y
-asked-later r x y h = (h .2 .0, h .2 .1)
+-- A question that is refused finds nothing, and one that finds other bytes doesn't find these.
+finds : Finds (page 1 ++ page 2) (page 2) (found 1) × (Finds (page 1 ++ page 2) (page 2) (queryRefused 8) → ⊥) × (Finds (page 1 ++ page 2) (page 2) (found 0) → ⊥)
+unfolding sector
+finds = (refl, (λ h. h), λ h. false≢true (ap (λ (d : Bytes). eqb (getD d 0 1) 2) h))
+
+-- What ends client 1's hold of file 2: its commit, its abort, and its open of that file for writing; and nothing of another client.
+ends : map (endsHold 1 2) (begin 1 ∷ openFile 1 2 ∷ openFile 1 1 ∷ openRead 1 2 ∷ write 1 2 0 [] ∷ commit 1 ∷ abort 1 ∷ openFile 2 2 ∷ commit 2 ∷ abort 2 ∷ [])
+    ≡ false ∷ true ∷ false ∷ false ∷ false ∷ true ∷ true ∷ false ∷ false ∷ false ∷ []
+ends = refl
+
+-- Every client, file and page is asked about, at each step of either kind, and the later ones from what the earlier left.
+asked-of-all : (t : Table) (r : Configuration) (x : Step) → Steadily t r (x ∷ []) → (k f p : ℕ) → IsClient t k → IsPage t f p → isReading (givenTo r x) k f ≡ true
+    → (shown (r .model) (readPage k f p) ≡ decidedContent (view (r .volume)) f p)
+    × (isReading (stepped r x .session) k f ≡ true → decidedContent (view (stepped r x .volume)) f p ≡ decidedContent (view (r .volume)) f p)
+asked-of-all t r x h k f p c i on = (h .0 k f p c i on .0, λ after. h .1 k f p c i on after .0)
+
+asked-later : (r : Configuration) (x y : Step) → Steadily table r (x ∷ y ∷ [])
+    → ReadersShown table (stepped r x) y × StepSteady table (stepped r x) y × HoldsStay table (stepped r x) y
+asked-later r x y h = (h .3 .0, h .3 .1, h .3 .2)
+
+-- Of a call that isn't cut and doesn't end the hold it is asked whether the hold stays.
+stay-of-all : (t : Table) (r : Configuration) (c : Call) (budget : ℕ) → HoldsStay t r (calls false c budget) → (k f : ℕ) → IsClient t k → IsFile t f
+    → isReading (r .session) k f ≡ true → endsHold k f c ≡ false → ((n : ℕ) → call (r .volume) (r .session) c budget .answer ≢ crashed n)
+    → isReading (call (r .volume) (r .session) c budget .session) k f ≡ true
+stay-of-all t r c budget h = h
 
 -- ------------------------------------------------------------------ while a client holds
--- Client 2 reads through client 1's commit; not through a crash before it, and not through its own commit.
-reads-through : ReadsThrough (run begun both newModel) 2 1 (calls false (commit 1) 3 ∷ [])
+-- Client 2 reads through a question and client 1's commit; not through a crash before it, and not through its own commit.
+reads-through : ReadsThrough (run begun both newModel) 2 1 (asks false (readPage 1 1 1) ∷ calls false (commit 1) 3 ∷ [])
 unfolding stepped modelCall call tests plan recovery heldFiles redone cutAt allStores first sessionFits markFits clientHoldsFit holdFits isReading sound lawful canonical encoded all view tableOf recordIn headerIn slotIn decodeTable decodeFiles decodeRecord decodeEntries decodeHeader sector storeAt newVolume newFiles repeated sectorAfter encodeTable fileBytes encodeRecord entryBytes encodeHeader padded
-reads-through = (refl, refl, tt)
+reads-through = (refl, refl, (refl, refl, tt))
 
 not-through-crash : ReadsThrough (run begun both newModel) 2 1 (calls true (begin 1) 3 ∷ []) → ⊥
 unfolding isReading
@@ -100,10 +123,15 @@ steady-here : ReadersSteady → (steps : List Step) → Steadily table (started 
 unfolding format formatTests lengthFits shapeFits endFits first all filesOf sectorAfter
 steady-here h = h (replicate 2304 0xEE) 2 shape refl
 
-while-here : SteadyWhile → (before steps : List Step) → let r = ranOver (started fresh) before in ReadsThrough r 2 1 steps
-    → decidedContent (view (ranOver r steps .volume)) 1 0 ≡ decidedContent (view (r .volume)) 1 0
+while-here : SteadyWhile → (before steps : List Step) (k f p : ℕ) → IsClient table k → IsPage table f p → let r = ranOver (started fresh) before in
+    ReadsThrough r k f steps → Unchanged r (ranOver r steps) k f p
 unfolding format formatTests lengthFits shapeFits endFits first all filesOf sectorAfter
-while-here h before steps w = h (replicate 2304 0xEE) 2 shape refl before steps 2 1 0 client2 page0 w .0
+while-here h = h (replicate 2304 0xEE) 2 shape refl
+
+unchanged : (r r′ : Configuration) (k f p : ℕ) → Unchanged r r′ k f p
+    → (decidedContent (view (r′ .volume)) f p ≡ decidedContent (view (r .volume)) f p)
+    × (shown (r′ .model) (readPage k f p) ≡ shown (r .model) (readPage k f p))
+unchanged r r′ k f p h = h
 
 -- Clients 1 and 2 share file 1, with a budget of 1 for each call.
 sharing-is : sharing 1 2 3 ≡ begin 1 ∷ begin 2 ∷ openRead 1 3 ∷ openRead 2 3 ∷ []
@@ -114,7 +142,9 @@ shared : (answersTo (started fresh) 1 (sharing 1 2 1) ≡ done 1 ∷ done 1 ∷ 
 unfolding modelCall call tests plan beginPlan openReadPlan withBit recovery heldFiles cutAt allStores first sessionFits markFits clientHoldsFit holdFits isReading sound lawful canonical encoded all view tableOf recordIn headerIn slotIn decodeTable decodeFiles decodeRecord decodeEntries decodeHeader sector storeAt newVolume newFiles repeated sectorAfter encodeTable fileBytes encodeRecord entryBytes encodeHeader padded
 shared = (refl, refl)
 
-share-here : ReadersShare → answersTo (started fresh) 1 (sharing 1 2 1) ≡ done 1 ∷ done 1 ∷ done 0 ∷ done 0 ∷ []
+share-here : ReadersShare → (answersTo (started fresh) 1 (sharing 1 2 1) ≡ done 1 ∷ done 1 ∷ done 0 ∷ done 0 ∷ [])
+    × (isReading (calledAll (started fresh) 1 (sharing 1 2 1) .session) 1 1 ≡ true)
+    × (isReading (calledAll (started fresh) 1 (sharing 1 2 1) .session) 2 1 ≡ true)
 unfolding format formatTests lengthFits shapeFits endFits first all filesOf sectorAfter
 share-here h = h (replicate 2304 0xEE) 2 shape refl 1 2 1 1 (record { low = omega arith; high = omega arith }) client2 (λ e. omega arith)
-    (record { low = omega arith; high = omega arith }) (omega arith) .0
+    (record { low = omega arith; high = omega arith }) (omega arith)

@@ -1,6 +1,6 @@
 -- Readers are steady. Only a commit changes the model's pages, by the pending pages of its client; those are of files that it holds,
 -- and nobody holds a file that is read. For the same reason a reader has no page of the file pending itself, so it is shown the
--- model's page, which is the decided content. None of read's tests applies to it, so a read hands that back.
+-- model's page, which is the decided content. None of read's tests applies to it, so a read finds that and hands it back.
 use mathlib.Core.Path.{_≡_, refl, sym, ap, _∙_}
 use mathlib.Core.Bool.{Bool, true, false, _||_}
 use mathlib.Core.List.{List, [], _∷_, _++_}
@@ -36,10 +36,11 @@ use Rattle.rules.proofs.CallLaws.{call-case, query-answered}
 use Rattle.rules.proofs.AllowedLaws.{Active, Reader, Ready, Allowed, ready, running-foreign}
 use Rattle.atomicity.specs.Model.{Pending, Model, overlaid, shown, emptied, effect, settled, modelCall}
 use Rattle.atomicity.specs.Runs.{Step, calls, asks, Configuration, started, given, stepped, ranOver}
-use Rattle.atomicity.specs.Readers.{StepSteady, Steadily, ReadersSteady, ReadsThrough, SteadyWhile}
+use Rattle.atomicity.specs.Readers.{Finds, Unchanged, StepSteady, HoldsStay, Steadily, ReadersSteady, ReadsThrough, SteadyWhile}
 use Rattle.atomicity.proofs.KeepLaws.{pendingIn}
 use Rattle.atomicity.proofs.RelationLaws.{Matches, faithful}
 use Rattle.atomicity.proofs.StepLaws.{call-matches, call-table, read-pending, query-matches}
+use Rattle.atomicity.proofs.StayLaws.{holds-stay}
 use Rattle.atomicity.proofs.NonVacuity.{Steady, new-steady, given-steady, call-steady}
 use Rattle.atomicity.proofs.Theorem.{Related, given-matches, new-related, startedAs, started-related}
 
@@ -122,12 +123,12 @@ module _ {t : Table} {r : Configuration} (h : Related t r) (ok : Steady (r .volu
   is-ready : Ready (view (r .volume)) (given crash (r .session))
   is-ready = ready _ _ (sound-lawful (r .volume) (fine-sound (r .volume) (steady .volume))) (steady .session)
 
-  reader : {k f p : ℕ} → IsClient t k → IsPage t f p → isReading (given crash (r .session)) k f ≡ true → Reader (given crash (r .session)) k f
+  reader : {k f : ℕ} → IsClient t k → IsFile t f → isReading (given crash (r .session)) k f ≡ true → Reader (given crash (r .session)) k f
   reader c i on = record {
     low = c .low;
     high = omega (arith, c .high, rw (h .table) at (is-ready .laws .table .four));
-    first = i .file .low;
-    last = omega (arith, i .file .high, rw (h .table) at (is-ready .laws .table .files .1));
+    first = i .low;
+    last = omega (arith, i .high, rw (h .table) at (is-ready .laws .table .files .1));
     on = on;
   }
 
@@ -135,22 +136,24 @@ module _ {t : Table} {r : Configuration} (h : Related t r) (ok : Steady (r .volu
   content f p i = h .matches .pages f p (rw (h .table) (i .file)) (rw (h .table) (i .below))
 
   readers-shown : (k f p : ℕ) → IsClient t k → IsPage t f p → isReading (given crash (r .session)) k f ≡ true
-      → (shown (r .model) (readPage k f p) ≡ decidedContent (view (r .volume)) f p)
-      × (queryPart (r .volume) (given crash (r .session)) (readPage k f p) ≡ decidedContent (view (r .volume)) f p)
+      → let d = decidedContent (view (r .volume)) f p in
+      (shown (r .model) (readPage k f p) ≡ d)
+      × Finds (r .volume) d (query (r .volume) (given crash (r .session)) (readPage k f p))
+      × (queryPart (r .volume) (given crash (r .session)) (readPage k f p) ≡ d)
   readers-shown k f p c i on =
       let s = given crash (r .session) in
-      let x : Reader (given crash (r .session)) k f = reader c i on in
+      let x : Reader (given crash (r .session)) k f = reader c (i .file) on in
       let is = reader-shown is-ready x (r .model) matches p ∙ sym (content f p i) in
       let found = query-answered (r .volume) s (readPage k f p) (reader-passes steady is-ready x (rw (h .table) c) (rw (h .table) i)) in
       let agrees = rw found at (query-matches (r .volume) s (r .model) matches (readPage k f p)) in
-      (is, agrees .1 ∙ is)
+      (is, rw found (agrees .0 ∙ is), agrees .1 ∙ is)
 
 -- ------------------------------------------------------------------ every list of steps
 pub steadily : (t : Table) (r : Configuration) (steps : List Step) → Related t r → Steady (r .volume) (r .session) → Steadily t r steps
 unfolding stepped
 steadily t r [] h ok = tt
 steadily t r (calls crash c budget ∷ xs) h ok =
-    (readers-shown h ok crash, same, steadily t (stepped r (calls crash c budget)) xs next fit)
+    (readers-shown h ok crash, same, stay, steadily t (stepped r (calls crash c budget)) xs next fit)
   where
     s : Session
     s = given crash (r .session)
@@ -166,11 +169,14 @@ steadily t r (calls crash c budget ∷ xs) h ok =
 
     same : StepSteady t r (calls crash c budget)
     same k f p client page on after =
-        let stay = pages-stay (r .volume) s (r .model) (matches h ok crash) (is-ready h ok crash) k f p (reader h ok crash client page on) c budget after in
+        let stay = pages-stay (r .volume) s (r .model) (matches h ok crash) (is-ready h ok crash) k f p (reader h ok crash client (page .file) on) c budget after in
         let kept = content next fit false f p page ∙ stay ∙ sym (content h ok crash f p page) in
         (kept, readers-shown next fit false k f p client page after .0 ∙ kept ∙ sym (readers-shown h ok crash k f p client page on .0))
+
+    stay : HoldsStay t r (calls crash c budget)
+    stay k f client file on e = holds-stay s (steady h ok crash .words) (reader h ok crash client file on) (r .volume) c budget e
 steadily t r (asks crash q ∷ xs) h ok =
-    (readers-shown h ok crash, (λ k f p client page on after. (refl, refl)), steadily t r xs h ok)
+    (readers-shown h ok crash, (λ k f p client page on after. (refl, refl)), tt, steadily t r xs h ok)
 
 -- From any sound volume with the content that it has.
 pub steadily-from : (v : Volume) (steps : List Step) → sound v ≡ true → Steadily (view v .table) (startedAs v) steps
@@ -185,19 +191,17 @@ readers-steady v T l d steps =
 
 -- ------------------------------------------------------------------ over several steps
 through : (t : Table) (r : Configuration) (steps : List Step) → Steadily t r steps → (k f p : ℕ) → IsClient t k → IsPage t f p
-    → ReadsThrough r k f steps
-    → (decidedContent (view (ranOver r steps .volume)) f p ≡ decidedContent (view (r .volume)) f p)
-    × (shown (ranOver r steps .model) (readPage k f p) ≡ shown (r .model) (readPage k f p))
+    → ReadsThrough r k f steps → Unchanged r (ranOver r steps) k f p
 through t r [] h k f p c i w = (refl, refl)
 through t r (x ∷ xs) h k f p c i w =
     let now = h .1 k f p c i (w .0) (w .1) in
-    let later = through t (stepped r x) xs (h .2) k f p c i (w .2) in
+    let later = through t (stepped r x) xs (h .3) k f p c i (w .2) in
     (later .0 ∙ now .0, later .1 ∙ now .1)
 
 -- Steadiness of a list is steadiness of its end.
 steady-after : (t : Table) (r : Configuration) (before steps : List Step) → Steadily t r (before ++ steps) → Steadily t (ranOver r before) steps
 steady-after t r [] steps h = h
-steady-after t r (x ∷ xs) steps h = steady-after t (stepped r x) xs steps (h .2)
+steady-after t r (x ∷ xs) steps h = steady-after t (stepped r x) xs steps (h .3)
 
 pub steady-while : SteadyWhile
 steady-while v T l d before steps k f p c i w =

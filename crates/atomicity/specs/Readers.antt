@@ -1,22 +1,25 @@
 -- Readers are steady, M-102: "The all-or-none rule now includes readers, whose pages don't change while they hold." Of every step of
--- every list: a client that holds a file for reading is shown its decided content, and while it holds it no page changes.
+-- every list: a client that holds a file for reading is shown its decided content; while it holds it no page changes; and it holds it
+-- until the step that ends the hold.
 use mathlib.Core.Path.{_≡_}
-use mathlib.Core.Bool.{true}
+use mathlib.Core.Bool.{Bool, true, false, _&&_}
 use mathlib.Core.List.{List, [], _∷_}
 use mathlib.Core.Logic.{_≢_}
 use Prim.Native.Nat.{ℕ, _≤_}
+use lib.Dec.{eqb}
 use lib.ListN.{length}
 use Rattle.interface.specs.declared.Session.{Session}
-use Rattle.interface.specs.Answers.{done, formatDone}
+use Rattle.interface.specs.Answers.{done, crashed, QueryAnswer, found, queryRefused, formatDone}
 use Rattle.sector.specs.Contents.{Bytes, Table}
+use Rattle.sector.specs.Sectors.{sector}
 use Rattle.volume.specs.Places.{IsClient, IsFile, IsPage}
 use Rattle.volume.specs.Views.{View}
 use Rattle.volume.specs.Volumes.{Volume, view}
 use Rattle.volume.specs.Format.{tableFor, format}
 use Rattle.rules.specs.Sessions.{isReading}
-use Rattle.rules.specs.Plans.{Call, begin, openRead, readPage}
+use Rattle.rules.specs.Plans.{Call, begin, openFile, openRead, write, commit, abort, readPage}
 use Rattle.rules.specs.Content.{decidedContent}
-use Rattle.rules.specs.Calls.{queryPart}
+use Rattle.rules.specs.Calls.{After, call, query, queryPart}
 use Rattle.atomicity.specs.Model.{Model, shown}
 use Rattle.atomicity.specs.Runs.{Step, calls, asks, Configuration, started, given, stepped, ranOver}
 use Rattle.atomicity.specs.NonVacuity.{calledAll, answersTo}
@@ -27,25 +30,54 @@ givenTo r (calls crash c budget) = given crash (r .session)
 givenTo r (asks crash q) = given crash (r .session)
 
 -- ------------------------------------------------------------------ at each step
--- A client that holds a file for reading in the session given is shown the file's decided content; and a read isn't refused, and
--- hands it back.
+-- A question isn't refused, and the sector that it answers has these bytes.
+abbrev pub Finds : Volume → Bytes → QueryAnswer → Type 0
+Finds v d (found n) = sector v n ≡ d
+Finds v d (queryRefused n) = ⊥
+
+-- A client that holds a file for reading in the session given is shown the file's decided content; and a read finds it, and hands it
+-- back.
 abbrev pub ReadersShown : Table → Configuration → Step → Type 0
 ReadersShown t r x =
     (k f p : ℕ) → IsClient t k → IsPage t f p → isReading (givenTo r x) k f ≡ true
-    → (shown (r .model) (readPage k f p) ≡ decidedContent (view (r .volume)) f p)
-    × (queryPart (r .volume) (givenTo r x) (readPage k f p) ≡ decidedContent (view (r .volume)) f p)
+    → let d = decidedContent (view (r .volume)) f p in
+    (shown (r .model) (readPage k f p) ≡ d)
+    × Finds (r .volume) d (query (r .volume) (givenTo r x) (readPage k f p))
+    × (queryPart (r .volume) (givenTo r x) (readPage k f p) ≡ d)
 
--- If it holds it for reading in the session after the step too, then neither that content nor what it is shown has changed.
+-- From r to r′ neither the decided content of the page has changed nor what the client is shown.
+abbrev pub Unchanged : (r r′ : Configuration) → (client file page : ℕ) → Type 0
+Unchanged r r′ k f p =
+    (decidedContent (view (r′ .volume)) f p ≡ decidedContent (view (r .volume)) f p)
+    × (shown (r′ .model) (readPage k f p) ≡ shown (r .model) (readPage k f p))
+
+-- So it is of a client that holds the file for reading in the session given and in the one after the step.
 abbrev pub StepSteady : Table → Configuration → Step → Type 0
 StepSteady t r x =
     (k f p : ℕ) → IsClient t k → IsPage t f p → isReading (givenTo r x) k f ≡ true → isReading (stepped r x .session) k f ≡ true
-    → (decidedContent (view (stepped r x .volume)) f p ≡ decidedContent (view (r .volume)) f p)
-    × (shown (stepped r x .model) (readPage k f p) ≡ shown (r .model) (readPage k f p))
+    → Unchanged r (stepped r x) k f p
 
--- Both hold at every step.
+-- What ends client k's reading hold of file f, besides a crash: k's commit, k's abort, and k's open of f for writing.
+abbrev pub endsHold : (client file : ℕ) → Call → Bool
+endsHold k f (begin j) = false
+endsHold k f (openFile j g) = eqb j k && eqb g f
+endsHold k f (openRead j g) = false
+endsHold k f (write j g p d) = false
+endsHold k f (commit j) = eqb j k
+endsHold k f (abort j) = eqb j k
+
+-- Nothing else does: a call that isn't cut, whether it is refused or done.
+abbrev pub HoldsStay : Table → Configuration → Step → Type 0
+HoldsStay t r (calls crash c budget) =
+    let x = call (r .volume) (given crash (r .session)) c budget in
+    (k f : ℕ) → IsClient t k → IsFile t f → isReading (given crash (r .session)) k f ≡ true
+    → endsHold k f c ≡ false → ((n : ℕ) → x .answer ≢ crashed n) → isReading (x .session) k f ≡ true
+HoldsStay t r (asks crash q) = Unit {0}
+
+-- All this holds at every step.
 abbrev pub Steadily : Table → Configuration → List Step → Type 0
 Steadily t r [] = Unit {0}
-Steadily t r (x ∷ xs) = ReadersShown t r x × StepSteady t r x × Steadily t (stepped r x) xs
+Steadily t r (x ∷ xs) = ReadersShown t r x × StepSteady t r x × HoldsStay t r x × Steadily t (stepped r x) xs
 
 -- For every volume as format left it, and every list of calls.
 abbrev pub ReadersSteady : Type 0
@@ -67,9 +99,7 @@ SteadyWhile =
     → (before steps : List Step) (k f p : ℕ)
     → let t = tableFor (length v) T l in
     let r = ranOver (started (format v T l .volume)) before in
-    IsClient t k → IsPage t f p → ReadsThrough r k f steps
-    → (decidedContent (view (ranOver r steps .volume)) f p ≡ decidedContent (view (r .volume)) f p)
-    × (shown (ranOver r steps .model) (readPage k f p) ≡ shown (r .model) (readPage k f p))
+    IsClient t k → IsPage t f p → ReadsThrough r k f steps → Unchanged r (ranOver r steps) k f p
 
 -- ------------------------------------------------------------------ not hollow
 -- Two clients begin and open file f for reading.
