@@ -12,7 +12,8 @@ use Rattle.volume.specs.Lawful.{lawful}
 use Rattle.volume.specs.Sound.{canonical, sound}
 use Rattle.sector.specs.Sectors.{sector}
 use Rattle.sector.specs.Decoding.{decodeTable, decodeFiles}
-use Rattle.rules.specs.Plans.{begin, readPage}
+use Rattle.rules.specs.Plans.{Call, begin, Query, readPage}
+use Rattle.rules.specs.Calls.{call, query}
 use Rattle.capi.specs.declared.VolSession.{VolSession}
 use Rattle.capi.specs.declared.VolReply.{VolReply}
 use Rattle.capi.specs.declared.VolAnswer.{VolAnswer}
@@ -58,3 +59,22 @@ not-sound = refl
 not-sound-query : askedBy [] (given 26) (readPage 1 1 0) ≡ answer 2 1
 unfolding askedBy sound canonical lawful all view tableOf decodeTable decodeFiles sector
 not-sound-query = refl
+
+-- On a sound volume: 2.
+other-bits-refused : (v : Volume) → sound v ≡ true
+    → calledBy v (given 16) (begin 1) 255 ≡ record { reply = record { session = given 16; kind = 2; number = 2 }; volume = v }
+unfolding calledBy
+other-bits-refused v e = rw e
+
+other-bits-unanswered : (v : Volume) → sound v ≡ true → askedBy v (given 16) (readPage 1 1 0) ≡ answer 2 2
+unfolding askedBy
+other-bits-unanswered v e = rw e
+
+-- Without other bits it is the call, with its arguments and its budget, and the question with its arguments.
+four-marks : (v : Volume) (x : Call) (budget : ℕ) → calledBy v (given 15) x budget ≡ passedAfter (call v (sessionFrom (given 15)) x budget)
+unfolding calledBy
+four-marks v x budget = refl
+
+four-marks-query : (v : Volume) (q : Query) → askedBy v (given 15) q ≡ passedQuery (query v (sessionFrom (given 15)) q)
+unfolding askedBy
+four-marks-query v q = refl

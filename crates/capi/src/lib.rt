@@ -1,5 +1,7 @@
 // The volume for C and Rust: `include/volume.h` declares these functions and structs. A slice is a pointer and a count.
-// Sessions, replies and answers are structs by value.
+// Sessions, replies and answers are structs by value. Ruled out of every call that takes a session: a fifth mark passed over
+// (`must-fail/fifth_bit_accepted`), and another session than the one given handed back by a refusal (`PassLaws.refused-given`);
+// of every answer, one kind taken for another (`must-fail/sector_as_refusal`).
 mod pass;
 
 use crate::pass::pass;
@@ -23,7 +25,7 @@ pub struct VolSession {
     pub reading: [u16; 4],
 }
 
-// What a call hands back that takes a session and a budget.
+// The reply of a call that takes a session and a budget.
 #[repr(C)]
 pub struct VolReply {
     pub session: VolSession,
@@ -31,7 +33,7 @@ pub struct VolReply {
     pub number: u16,
 }
 
-// What a call hands back that hands back no session.
+// The answer of a call that hands back no session.
 #[repr(C)]
 pub struct VolAnswer {
     pub kind: u8,
@@ -91,7 +93,8 @@ pub extern "C" fn vol_open(
     pass(calls::open(volume, session_from(session), client, file, budget))
 }
 
-// Gives the file to the client for reading. Ruled out: client and file exchanged (`must-fail/client_and_file_exchanged`).
+// Gives the file to the client for reading. Ruled out: client and file exchanged (`must-fail/client_and_file_exchanged`); the
+// file given for writing.
 #[no_mangle]
 pub extern "C" fn vol_open_read(
     volume: &mut [u8],

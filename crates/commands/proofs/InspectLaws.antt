@@ -35,11 +35,11 @@ hold-limits k f e =
 
 -- k and f are the first two arguments.
 module _ (s : Session) (l : Bytes) (k f : ℕ) (e : k ≡ byteArgument 1 l) (g : f ≡ byteArgument 2 l) where
-  pub hold-added : isHold k f ≡ true → record { «is_named» = true; session = withReading s k f } ≡ readingAdded s l
+  pub hold-added : isHold k f ≡ true → record { «is_understood» = true; session = withReading s k f } ≡ readingAdded s l
   unfolding readingAdded
   hold-added h = rw (← e, ← g, h)
 
-  pub hold-missing : isHold k f ≡ false → record { «is_named» = false; session = s } ≡ readingAdded s l
+  pub hold-missing : isHold k f ≡ false → record { «is_understood» = false; session = s } ≡ readingAdded s l
   unfolding readingAdded
   hold-missing h = rw (← e, ← g, h)
 

@@ -9,12 +9,11 @@ use interface::Session;
 use script::fields::argument;
 use sector::Sector;
 ghost use mathlib.Core.Path.{_≡_};
-ghost use Rattle.interface.specs.Answers.{noneReading, sessionOf};
 ghost use Rattle.rules.specs.Plans.{readPage};
 ghost use Rattle.rules.specs.Calls.{queryPart};
 ghost use Rattle.script.specs.Fields;
 ghost use Rattle.commands.specs.Lines.{byteArgument};
-ghost use Rattle.commands.specs.Inspect.{isRemark, isHold, readingAdded, showsHold, poked, dumped};
+ghost use Rattle.commands.specs.Inspect.{isRemark, sessionSet, isHold, readingAdded, showsHold, poked, dumped};
 
 // Whether the line is passed over: it is empty or begins with `#`.
 pub fn is_remark(line: &[u8]) -> bool
@@ -26,14 +25,15 @@ pub fn is_remark(line: &[u8]) -> bool
     line[0] == b'#'
 }
 
-// `session M`: these marks, and no reading hold.
+// `session M`. Ruled out: the holds from before kept; client 4's mark taken for client 1's
+// (`interface/must-fail/bits_from_the_top`).
 pub fn session(line: &[u8]) -> Session
-    ensures { λ r. ⌜ r ≡ sessionOf (byteArgument 1 (now (line .entry))) noneReading ⌝ }
+    ensures { λ r. ⌜ r ≡ sessionSet (now (line .entry)) ⌝ }
 {
     interface::session_of(byte_argument(line, 1), [0; 4])
 }
 
-// Whether a session has room for a hold of this client and file.
+// Whether a session has room for a reading hold of this client and file.
 fn is_hold(k: u8, f: u8) -> bool
     ensures { λ r. ⌜ r ≡ isHold k f ⌝ }
 {
@@ -48,17 +48,17 @@ pub fn reading(s: Session, line: &[u8]) -> Added
     let f = byte_argument(line, 2);
     if is_hold(k, f) {
         return Added {
-            is_named: true,
+            is_understood: true,
             session: sessions::with_reading(s, k, f),
         };
     }
     Added {
-        is_named: false,
+        is_understood: false,
         session: s,
     }
 }
 
-// `session`: whether it shows the hold of this client and file.
+// `session`: whether it has a line for this client and file. Ruled out: file 17 taken for file 1; a hold of client 0.
 pub fn shows_hold(s: Session, k: u8, f: u8) -> bool
     ensures { λ r. ⌜ r ≡ showsHold s k f ⌝ }
 {

@@ -1,6 +1,5 @@
 // Commands: the calls of scripts with their arguments, and one function that performs them. A step of a script of bytes
-// and a line of a script of text each become a command. Also the lines that show the volume, or change volume or session by
-// hand.
+// and a line of a script of text each become a command. Also the lines that show volume or session, or change them by hand.
 pub mod inspect;
 pub mod lines;
 mod performer;
@@ -45,8 +44,8 @@ pub struct Performed {
     pub session: Session,
 }
 
-// The session with a reading hold more; without, if the line names no client or file that a session has room for.
+// Whether a session has room for the reading hold that a line names, and the session, with that hold if so.
 pub struct Added {
-    pub is_named: bool,
+    pub is_understood: bool,
     pub session: Session,
 }

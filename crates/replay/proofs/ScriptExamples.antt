@@ -73,13 +73,13 @@ unfolding hasRoom stepsFrom stepIn commandIn stepOf isWhole
 too-little-room = refl
 
 -- ------------------------------------------------------------------ transcripts
--- Clients 1 and 3 are active. Client 1 reads files 1 and 16, client 2 file 2, client 3 file 9, client 4 none.
+-- Clients 1 and 3 are active. Client 1 reads files 1 and 16, client 2 file 2, client 3 file 9, client 4 files 3 and 10.
 abbrev active13 : Session
-active13 = record { active = true ∷ false ∷ true ∷ false ∷ []; reading = 0x8001 ∷ 2 ∷ 0x100 ∷ 0 ∷ [] }
+active13 = record { active = true ∷ false ∷ true ∷ false ∷ []; reading = 0x8001 ∷ 2 ∷ 0x100 ∷ 0x204 ∷ [] }
 
 -- Its nine bytes, and those of a new session.
 abbrev nine : Bytes
-nine = 5 ∷ 0x01 ∷ 0x80 ∷ 2 ∷ 0 ∷ 0 ∷ 1 ∷ 0 ∷ 0 ∷ []
+nine = 5 ∷ 0x01 ∷ 0x80 ∷ 2 ∷ 0 ∷ 0 ∷ 1 ∷ 4 ∷ 2 ∷ []
 
 abbrev newNine : Bytes
 newNine = replicate 9 0

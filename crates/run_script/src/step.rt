@@ -45,7 +45,7 @@ fn add_hold(s: Session, line: &[u8]) -> Turn {
     let next = added.session;
     Turn {
         session: next,
-        is_understood: added.is_named,
+        is_understood: added.is_understood,
     }
 }
 

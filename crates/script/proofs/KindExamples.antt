@@ -18,15 +18,16 @@ calls : kinds ("begin 255" ∷ "begin 1 255" ∷ "open 1 2 3" ∷ "open_read 1 2
 unfolding rows kindIn fromField all
 calls = refl
 
-others : kinds ("format 262400 255 1 2" ∷ "session 15" ∷ "session" ∷ "reading 4 16" ∷ "poke 262399 255" ∷ "dump 1024" ∷ "list" ∷ [])
-    ≡ Kind.Format ∷ Kind.Session ∷ Kind.ShowSession ∷ Kind.Reading ∷ Kind.Poke ∷ Kind.Dump ∷ Kind.List ∷ []
+-- A client 0 or a file 0 is found out later.
+others : kinds ("format 262400 255 1 2" ∷ "session 15" ∷ "session" ∷ "reading 4 16" ∷ "reading 0 0" ∷ "poke 262399 255" ∷ "dump 1024" ∷ "list" ∷ [])
+    ≡ Kind.Format ∷ Kind.Session ∷ Kind.ShowSession ∷ Kind.Reading ∷ Kind.Reading ∷ Kind.Poke ∷ Kind.Dump ∷ Kind.List ∷ []
 unfolding rows kindIn fromField all
 others = refl
 
 -- Too few, too many, too large.
 not-understood : kinds ("begin" ∷ "begin 1 2 3" ∷ "begin 256" ∷ "open 1" ∷ "read 1 2 3 4" ∷ "write 1 2 3 4 513" ∷ "format 262401 1"
-    ∷ "session 16" ∷ "session 1 2" ∷ "reading 5 1" ∷ "reading 1 17" ∷ "reading 1" ∷ "reading 1 1 1" ∷ "open_read 1" ∷ "open_read 1 2 256"
+    ∷ "session 16" ∷ "session 1 2" ∷ "reading 5 1" ∷ "reading 1 17" ∷ "reading 1" ∷ "reading 1 1 1" ∷ "open_read 1" ∷ "open_read 1 2 3 4" ∷ "open_read 256 2" ∷ "open_read 1 256" ∷ "open_read 1 2 256"
     ∷ "poke 262400 0" ∷ "poke 0 256" ∷ "dump 1025" ∷ "list 1" ∷ "beginning 1" ∷ "beg 1" ∷ [])
-    ≡ replicate 21 Kind.Unknown
+    ≡ replicate 24 Kind.Unknown
 unfolding rows kindIn fromField all
 not-understood = refl
