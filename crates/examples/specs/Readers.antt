@@ -1,6 +1,6 @@
--- Two clients read file 1 of V, M-102: each rule where it first matters, in one list of calls. A word of reading holds has 1 for
+-- Two clients read file 1 of V, M-102: each rule where it first matters, in one list of calls; and an open that is cut. A word of reading holds has 1 for
 -- file 1 and 2 for file 2.
-use mathlib.Core.Bool.{Bool}
+use mathlib.Core.Bool.{Bool, _&&_}
 use mathlib.Core.List.{List, [], _∷_, _++_}
 use Rattle.interface.specs.Answers.{done, crashed, refused}
 use Rattle.rules.specs.Plans.{begin, openFile, openRead, write, commit, abort, readPage}
@@ -46,6 +46,14 @@ upgrade =
     ∷ does (write 1 1 0 A) 2
     ∷ []
 
+-- Cut before that store, the hold is gone, as after every cut, and the file is nobody's.
+abbrev upgradeCut : List Fact
+upgradeCut =
+    does (begin 1) 1 ∷ answers (openRead 1 1) 0 (done 0)
+    ∷ answers (openFile 1 1) 0 (crashed 0) ∷ reading (0 ∷ 0 ∷ 0 ∷ 0 ∷ [])
+    ∷ sectorIs 3 (headerBytes 0 (0 ∷ 1 ∷ []))
+    ∷ []
+
 -- Client 1's commit is cut after its deciding store. "recovering an interrupted holder first": client 2's open for reading is cut
 -- after the first of three stores, and is left with no hold; after the next begin the rest is done, and both files are new.
 abbrev recovers : List Fact
@@ -61,4 +69,4 @@ recovers =
     ∷ []
 
 abbrev pub readersHold : Bool
-readersHold = played (started small) (together ++ refusedToReaders ++ writesBeside ++ upgrade ++ recovers)
+readersHold = played (started small) (together ++ refusedToReaders ++ writesBeside ++ upgrade ++ recovers) && played (started small) upgradeCut
