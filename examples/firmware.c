@@ -1,12 +1,12 @@
 // A kiln controller's loop. It loads a card (file 1) and notes the flask on it (file 2) in one transaction, and the
 // supply fails after 0, 1, 2 .. stores of it. After each start the two belong together: both are old, or both are new.
-// Then the kiln fires by the curve (file 3), and a panel reads the same curve meanwhile: neither waits for the other.
+// Then it fires by the curve (file 3), and a second kiln reads the same curve meanwhile: neither waits for the other.
 #include <stdio.h>
 #include <stdlib.h>
 
 #include "volume.h"
 
-enum { KILN = 1, PANEL = 2 };
+enum { KILN = 1, KILN_2 = 2 };
 enum { CARD = 1, FLASK = 2, CURVE = 3 };
 // The stores of a whole load (begin 1, two opens 2, two writes 4, commit 4), and how many of them up to the one that
 // decides.
@@ -124,25 +124,26 @@ static int round_of(unsigned number, unsigned stores) {
     return check();
 }
 
-// The panel writes the curve, whose hottest step this is. It may: it is then the only one that holds the curve.
+// The second kiln writes the curve; `degrees` is for its last step. It may: only it holds the curve then.
 static int write_curve(unsigned degrees) {
-    if (!open_file(PANEL, CURVE)) return 0;
+    if (!open_file(KILN_2, CURVE)) return 0;
     for (uint8_t step = 0; step < STEPS; step++)
-        if (!write_number(PANEL, CURVE, step, degrees * (step + 1u) / STEPS)) return 0;
+        if (!write_number(KILN_2, CURVE, step, degrees * (step + 1u) / STEPS)) return 0;
     printf("curve written\n");
-    return commit(PANEL);
+    return commit(KILN_2);
 }
 
-// The kiln fires the next flask by the curve, and the panel shows the curve meanwhile. Both hold it for reading, so no
-// step of it changes while they do, and to write it is refused. Answers whether both saw the same.
+// The kiln fires the next flask by the curve, and the second one reads the curve meanwhile. Both hold it for reading: no
+// step of it changes while they do, and to write it is refused. Answers whether both read the same.
 static int fire(unsigned number) {
-    if (!(take_files() && open_read(KILN, CURVE) && begin(PANEL) && open_read(PANEL, CURVE))) return 0;
+    if (!(take_files() && open_read(KILN, CURVE) && begin(KILN_2) && open_read(KILN_2, CURVE))) return 0;
     for (uint8_t step = 0; step < STEPS; step++) {
-        unsigned fired = read_number(KILN, CURVE, step), shown = read_number(PANEL, CURVE, step);
-        printf("flask %u, step %u: fired at %u, shown as %u\n", number, step, fired, shown);
-        if (fired != shown) return 0;
+        unsigned first = read_number(KILN, CURVE, step), second = read_number(KILN_2, CURVE, step);
+        printf("flask %u, step %u: %u degrees, and %u for the second kiln\n", number, step, first, second);
+        if (first != second) return 0;
     }
-    vol_reply reply = vol_open(chip, sizeof chip, session, PANEL, CURVE, budget());
+    // The session stays as it is: a refusal hands back the one given.
+    vol_reply reply = vol_open(chip, sizeof chip, session, KILN_2, CURVE, budget());
     if (reply.kind != VOL_REFUSED || reply.number != VOL_FILE_IN_USE) return 0;
     printf("the curve is in use\n");
     return note(number) && commit(KILN);
@@ -153,8 +154,8 @@ int main(void) {
         if (!round_of(stores + 1, stores)) return 1;
     list();
     start();
-    if (!(begin(PANEL) && write_curve(900))) return 1;
-    // Once the kiln has given the curve back, the panel alone reads it, and writes the next one.
+    if (!(begin(KILN_2) && write_curve(900))) return 1;
+    // Once the first kiln has given the curve back, the second alone reads it, and writes the next one.
     if (!(fire(WHOLE + 2) && write_curve(1200) && fire(WHOLE + 3))) return 1;
     start();
     return check() ? 0 : 1;

@@ -3,14 +3,16 @@
 //
 // A slice is a pointer and a count of bytes. The slices of one call must not overlap.
 //
-// A session says which clients (1 to 4) have a transaction running, and which files each of them holds for reading. All
-// zero is a new session: start with one, pass on the session of each reply, and start with a new one again after a
-// crash. Sessions are made by the calls. One that doesn't fit the volume is refused by 2, or by 1 if the array isn't a
-// sound volume; so is one with a bit of `active` above the fourth.
+// A session says which clients (1 to 4) have a transaction running, and which files each of them holds for reading. A
+// volume has one session for all its clients. All zero is a new session: start with one, give each call the session of
+// the last reply, and start with a new one again after a crash. Don't make sessions up, and don't go back to an older
+// one: it has forgotten the holds noted since. One that doesn't fit the volume is refused by 2, or by 1 if the array
+// isn't a sound volume; so is one with a bit of `active` above the fourth.
 //
-// A call that takes a session and a budget hands back a reply; every other one an answer, which has no session:
+// A call that takes a session and a budget hands back a reply; vol_format and vol_read an answer, without a session:
 //   VOL_DONE: number is the count of stores; the session is the one for the next call.
-//   VOL_CUT: the budget ran out; number is the count of stores made, all of them whole; the session is a new one.
+//   VOL_CUT: the budget ran out; number is the count of stores made, all of them whole; the session is a new one: the
+//     transactions and holds of all clients are over.
 //   VOL_REFUSED: number is the refusal; nothing was stored; the session is the one given.
 //   VOL_SECTOR (vol_read only): number is the sector.
 // A budget is the number of sector stores that a call may make; 255 is always enough.
@@ -29,14 +31,14 @@ typedef struct {
     uint16_t reading[4];  // bit f - 1 of reading[k - 1]: client k holds file f for reading
 } vol_session;
 
-// What a call hands back that takes a session and a budget.
+// The reply of a call that takes a session and a budget.
 typedef struct {
     vol_session session;
     uint8_t kind;
     uint16_t number;
 } vol_reply;
 
-// What a call hands back that hands back no session.
+// The answer of a call that hands back no session.
 typedef struct {
     uint8_t kind;
     uint16_t number;
@@ -57,12 +59,14 @@ enum { VOL_DONE = 0, VOL_CUT = 1, VOL_REFUSED = 2, VOL_SECTOR = 3 };
 // The refusals: the number beside VOL_REFUSED. A call gives the lowest that applies; 16 is tested after 8 and before 9.
 enum {
     VOL_NOT_SOUND = 1,           // the array is not a sound volume
-    VOL_BAD_SESSION = 2,         // the session doesn't fit the volume
+    VOL_BAD_SESSION = 2,         // the session doesn't fit the volume: a mark without a transaction there, or a
+                                 // reading hold without a mark, of no file, or of a file that has a holder
     VOL_NO_CLIENT = 3,           // there is no such client
     VOL_ALREADY_ACTIVE = 4,      // the client has a transaction running already
     VOL_NOT_ACTIVE = 5,          // the client has no transaction running
     VOL_NO_FILE = 6,             // there is no such file
-    VOL_FILE_IN_USE = 7,         // another client's running transaction has the file, in a way that excludes this one
+    VOL_FILE_IN_USE = 7,         // another client's running transaction holds the file for writing; or for reading, and
+                                 // this one is to write it
     VOL_NOT_HELD = 8,            // the client holds the file neither for writing nor for reading
     VOL_NO_PAGE = 9,             // the file has no such page
     VOL_BAD_PAGE_LENGTH = 10,    // a page takes 256 bytes, no more and no fewer
@@ -99,8 +103,9 @@ vol_reply vol_begin(uint8_t *volume, size_t len, vol_session session, uint8_t cl
 // Gives the file (1 to the number of files) to the client for reading and writing, until it commits or aborts.
 // It must be nobody else's: 7 if another client's running transaction holds the file for writing or for reading.
 // If a crash interrupted the holder's transaction, that is recovered first, in all its files.
-// A file that the client holds for reading it holds for writing from then on, and no longer for reading.
-// Reply: done, without a store if the client holds the file for writing already; cut; or refused.
+// A file that the client alone holds for reading it holds for writing from then on, and no longer for reading.
+// Reply: done, with one store after the recovery's, or none if the client holds the file for writing already; cut; or
+// refused.
 // Refused by 1, 2, 3, 5, 6, 7.
 vol_reply vol_open(uint8_t *volume, size_t len, vol_session session, uint8_t client, uint8_t file, uint8_t budget);
 
@@ -110,7 +115,8 @@ vol_reply vol_open(uint8_t *volume, size_t len, vol_session session, uint8_t cli
 // The hold is noted in the session and takes no store. If a crash interrupted the holder's transaction, that is
 // recovered first, in all its files; these are the only stores. A file that the client holds already, either way, stays
 // as it is.
-// Reply: done with the session that has the hold; cut; or refused.
+// Reply: done with the session that has the hold, or the session given if the client holds the file already; cut; or
+// refused.
 // Refused by 1, 2, 3, 5, 6, 7.
 vol_reply vol_open_read(uint8_t *volume, size_t len, vol_session session, uint8_t client, uint8_t file,
                         uint8_t budget);
@@ -132,15 +138,17 @@ vol_reply vol_write(uint8_t *volume, size_t len, vol_session session, uint8_t cl
 
 // Ends the client's transaction: its pages become the files' content, all of them or none. It gives its files back,
 // those that it reads too.
-// Reply: done with the session that no longer marks the client; cut; or refused.
-// Cut with number 0, nothing is kept; cut with 1 or more, everything is: the client's next begin, or an open of its
-// files, does the rest.
+// Reply: done with 2 stores and one for each file that it holds for writing, and the session that no longer marks the
+// client; cut; or refused.
+// Cut with number 0, nothing is kept; cut with 1 or more, everything is: the client's next begin, or an open of one of
+// its files, for writing or for reading, does the rest.
 // Refused by 1, 2, 3, 5.
 vol_reply vol_commit(uint8_t *volume, size_t len, vol_session session, uint8_t client, uint8_t budget);
 
 // Ends the client's transaction: its pages are dropped, and it gives its files back, those that it reads too.
-// Reply: done with the session that no longer marks the client; cut; or refused.
-// Cut, the pages are dropped as well: the client's next begin, or an open of its files, does the rest.
+// Reply: done with 1 store and one for each file that it holds for writing, and the session that no longer marks the
+// client; cut; or refused.
+// Cut, the pages are dropped as well: the client's next begin, or an open of one of its files, does the rest.
 // Refused by 1, 2, 3, 5.
 vol_reply vol_abort(uint8_t *volume, size_t len, vol_session session, uint8_t client, uint8_t budget);
 

@@ -109,7 +109,8 @@ called : map (call tiny active1 (abort 1)) (2 ∷ 1 ∷ [])
 unfolding call tests plan recovery heldFiles allStores first sessionFits markFits clientHoldsFit isReading sound lawful canonical encoded all view tableOf recordIn headerIn decodeTable decodeFiles decodeRecord decodeEntries decodeHeader sector cutAt storeAt newVolume newFiles repeated sectorAfter encodeTable fileBytes encodeRecord entryBytes encodeHeader padded
 called = refl
 
--- The session after it is the one for this volume: client 1 holds the file there and notes no hold; where nobody holds it, it does.
+-- The session after an open for reading goes by the volume from before it: where client 1 holds the file no hold is noted, and where
+-- nobody holds it, it is.
 reading-noted : map (λ v. executed v active1 (openRead 1 1) 0 [] .session) (tiny ∷ half ∷ []) ≡ active1 ∷ reads active1 (1 ∷ 0 ∷ 0 ∷ 0 ∷ []) ∷ []
 unfolding isReading withBit view tableOf recordIn headerIn decodeTable decodeFiles decodeRecord decodeEntries decodeHeader sector cutAt storeAt newVolume newFiles repeated sectorAfter encodeTable fileBytes encodeRecord entryBytes encodeHeader padded
 reading-noted = refl
