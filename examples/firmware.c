@@ -133,7 +133,7 @@ static int write_curve(unsigned degrees) {
     return commit(KILN_2);
 }
 
-// The kiln fires the next flask by the curve, and the second one reads the curve meanwhile. Both hold it for reading: no
+// The kiln fires the next flask by the curve, and the second one reads it meanwhile. Both hold it for reading: no
 // step of it changes while they do, and to write it is refused. Answers whether both read the same.
 static int fire(unsigned number) {
     if (!(take_files() && open_read(KILN, CURVE) && begin(KILN_2) && open_read(KILN_2, CURVE))) return 0;
