@@ -8,6 +8,7 @@ use Prim.Native.String.{String}
 use lib.ListN.{replicate}
 use Rattle.interface.specs.declared.Session.{Session}
 use Rattle.interface.specs.Answers.{newSession, sessionOf}
+use Rattle.interface.proofs.AnswerExamples.{marks}
 use Rattle.byteset.specs.Bits.{withBit}
 use Rattle.rules.specs.Sessions.{isReading}
 use Rattle.script.specs.Fields.{fromField}
@@ -22,7 +23,7 @@ room-for-holds = refl
 
 -- Marks by their bits, and no hold.
 sessions-set : map (λ l. sessionSet (bytesOf l)) ("session 10" ∷ "session 0" ∷ [])
-    ≡ record { active = false ∷ true ∷ false ∷ true ∷ []; reading = 0 ∷ 0 ∷ 0 ∷ 0 ∷ [] } ∷ newSession ∷ []
+    ≡ marks false true false true ∷ newSession ∷ []
 unfolding fromField
 sessions-set = refl
 

@@ -1,5 +1,5 @@
--- Two clients read file 1 of V, M-102: each rule where it first matters, in one list of calls; and an open that is cut. A word of reading holds has 1 for
--- file 1 and 2 for file 2.
+-- Two clients read file 1 of V, M-102: each rule where it first matters, in one list of calls; and an open that is cut. A word of
+-- reading holds has 1 for file 1 and 2 for file 2.
 use mathlib.Core.Bool.{Bool, _&&_}
 use mathlib.Core.List.{List, [], _∷_, _++_}
 use Rattle.interface.specs.Answers.{done, crashed, refused}

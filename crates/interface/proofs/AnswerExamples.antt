@@ -11,7 +11,8 @@ use Rattle.interface.specs.declared.FormatOutcome.{FormatOutcome}
 use Rattle.interface.specs.Answers.{noneReading, newSession, sessionOf, marksByte, done, crashed, refused, found, queryRefused, formatDone, formatRefused, refusalNumber, answerOf, queryAnswerOf, formatAnswerOf}
 
 -- ------------------------------------------------------------------ sessions: newSession, sessionOf, marksByte, markWorth
-abbrev marks : Bool → Bool → Bool → Bool → Session
+-- A session of these marks, without reading holds: other crates' examples use it too.
+abbrev pub marks : Bool → Bool → Bool → Bool → Session
 marks a b c d = record { active = a ∷ b ∷ c ∷ d ∷ []; reading = 0 ∷ 0 ∷ 0 ∷ 0 ∷ [] }
 
 -- "A new session has no kiln open": of the four, none is marked, and none has a reading hold.

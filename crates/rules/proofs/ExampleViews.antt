@@ -4,14 +4,11 @@ use mathlib.Core.List.{List, [], _∷_}
 use Prim.Native.Nat.{ℕ}
 use lib.Dec.{eqb}
 use Rattle.interface.specs.declared.Session.{Session}
-use Rattle.interface.specs.Answers.{noneReading}
+pub use Rattle.interface.proofs.AnswerExamples.{marks}
 use Rattle.lists.specs.Lists.{if_then_else_}
 use Rattle.sector.specs.Contents.{Bytes, Table, Entry, Record, Header, idleRecord}
 use Rattle.volume.specs.Views.{View, noHeader}
 pub use Rattle.volume.proofs.PlaceExamples.{entry, rec, header}
-
-abbrev pub marks : Bool → Bool → Bool → Bool → Session
-marks a b c d = record { active = a ∷ b ∷ c ∷ d ∷ []; reading = noneReading }
 
 -- The session with these words of reading holds: bit 0 of the first is client 1's of file 1.
 abbrev pub reads : Session → List ℕ → Session

@@ -7,6 +7,7 @@
 //! - [`reply`]: sessions and answers as the C library has them.
 //! - [`script`]: scripts of calls, read, printed and run.
 //! - [`small`]: every sound volume of one small shape.
+//! - [`wrong_lines`]: lines that no script may have.
 //!
 //! The other modules serve the test driver `soak`.
 //!
@@ -30,3 +31,4 @@ pub mod script;
 pub mod shrink;
 pub mod small;
 pub mod volume;
+pub mod wrong_lines;

@@ -5,6 +5,7 @@ use std::path::Path;
 
 use model::engine::Engine;
 use model::script::{parse, run};
+use model::wrong_lines::WRONG_LINES;
 
 /// What a script prints, the same on both engines.
 fn output_of(script: &[u8]) -> String {
@@ -28,56 +29,12 @@ fn examples() {
     }
 }
 
-const NOT_UNDERSTOOD: [&str; 42] = [
-    "",
-    "nothing",
-    "list 1",
-    "list ",
-    " list",
-    "begin",
-    "begin ",
-    "begin 256",
-    "begin 1  2",
-    "begin 1 2 3",
-    "begin -1",
-    "begin +1",
-    "begin 1\r",
-    "open 1",
-    "open 1 2 3 4",
-    "open_read 1",
-    "open_read 1 2 3 4",
-    "open_read 1 256",
-    "openread 1 1",
-    "reading",
-    "reading 1",
-    "reading 0 1",
-    "reading 5 1",
-    "reading 1 0",
-    "reading 1 17",
-    "reading 257 1",
-    "reading 1 1 1",
-    "read 1 2 3 4",
-    "write 1 2 3 4",
-    "write 1 1 0 0 513",
-    "write 1 1 0 256 256",
-    "session 16",
-    "session 256",
-    "session 1 1",
-    "session ",
-    "poke 1",
-    "poke 1 256",
-    "dump",
-    "format 1",
-    "format 262401 1 1 1",
-    "format 2816 1 1 256",
-    "begin 99999999999999999999999999",
-];
-
 #[test]
 fn lines_that_are_not_understood() {
-    for line in NOT_UNDERSTOOD {
+    for line in WRONG_LINES {
         assert_eq!(parse(line.as_bytes()), None, "{line:?}");
     }
+    assert_eq!(parse(b""), None);
     let many = "format 2816 1".to_string() + &" 1".repeat(65);
     assert_eq!(parse(many.as_bytes()), None);
     assert!(parse(&many.as_bytes()[..many.len() - 2]).is_some());

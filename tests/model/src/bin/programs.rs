@@ -14,6 +14,7 @@ use model::random::Random;
 use model::script::{listing, run, MAX_INPUT};
 use model::small;
 use model::volume::{self, Session, SECTOR_SIZE};
+use model::wrong_lines::WRONG_LINES;
 
 fn main() -> ExitCode {
     let words: Vec<String> = env::args().collect();
@@ -78,14 +79,16 @@ fn listed(volume: &[u8]) -> Vec<u8> {
 
 // -------------------------------------------------------------- the scripts
 
-/// Scripts of many lines, and scripts of 65,535 to 65,537 bytes.
+/// Each wrong line between two right ones, scripts of 65,535 to 65,537 bytes,
+/// and scripts of many lines.
 fn scripts(random: &mut Random, count: usize) -> impl Iterator<Item = Vec<u8>> + '_ {
+    let wrong = WRONG_LINES.map(|line| format!("session\n{line}\nsession\n").into_bytes());
     let longest = [MAX_INPUT - 1, MAX_INPUT, MAX_INPUT + 1].map(|length| {
         let mut script = vec![b'#'; length];
         script[length - 1] = b'\n';
         script
     });
-    longest.into_iter().chain((0..count).map(|_| script(random)))
+    wrong.into_iter().chain(longest).chain((0..count).map(|_| script(random)))
 }
 
 /// A transaction that writes a page, which goes on to the next free real.
@@ -122,22 +125,6 @@ fn script(random: &mut Random) -> Vec<u8> {
     text
 }
 
-/// Lines about holds and sessions that are nearly right.
-const NOT_UNDERSTOOD: [&str; 12] = [
-    "open_read",
-    "open_read 1",
-    "open_read 1 1 1 1",
-    "reading",
-    "reading 1",
-    "reading 0 1",
-    "reading 5 1",
-    "reading 1 0",
-    "reading 1 17",
-    "reading 1 1 1",
-    "session 16",
-    "session 1 1",
-];
-
 const WORDS: [&str; 15] = [
     "begin",
     "open",
@@ -159,7 +146,7 @@ const WORDS: [&str; 15] = [
 /// A line, most often with small numbers in the right places.
 fn line(random: &mut Random) -> String {
     if random.chance(1) {
-        return String::from(random.pick(&NOT_UNDERSTOOD).unwrap_or(""));
+        return String::from(random.pick(&WRONG_LINES).unwrap_or(""));
     }
     let word = random.pick(&WORDS).unwrap_or("");
     let mut line = String::from(word);
