@@ -83,9 +83,11 @@ finds : Finds (page 1 ++ page 2) (page 2) (found 1) × (Finds (page 1 ++ page 2)
 unfolding sector
 finds = (refl, (λ h. h), λ h. false≢true (ap (λ (d : Bytes). eqb (getD d 0 1) 2) h))
 
--- What ends client 1's hold of file 2: its commit, its abort, and its open of that file for writing; and nothing of another client.
-ends : map (endsHold 1 2) (begin 1 ∷ openFile 1 2 ∷ openFile 1 1 ∷ openRead 1 2 ∷ write 1 2 0 [] ∷ commit 1 ∷ abort 1 ∷ openFile 2 2 ∷ commit 2 ∷ abort 2 ∷ [])
-    ≡ false ∷ true ∷ false ∷ false ∷ false ∷ true ∷ true ∷ false ∷ false ∷ false ∷ []
+-- What ends client 1's hold of file 2: its open of that file for writing, its commit and its abort; and nothing of another client.
+ends : map (λ k. map (λ f. map (endsHold 1 2) (begin k ∷ openFile k f ∷ openRead k f ∷ write k f 0 [] ∷ commit k ∷ abort k ∷ [])) (1 ∷ 2 ∷ [])) (1 ∷ 2 ∷ [])
+    ≡ ((false ∷ false ∷ false ∷ false ∷ true ∷ true ∷ []) ∷ (false ∷ true ∷ false ∷ false ∷ true ∷ true ∷ []) ∷ [])
+    ∷ replicate 2 (replicate 6 false)
+    ∷ []
 ends = refl
 
 -- Every client, file and page is asked about, at each step of either kind, and the later ones from what the earlier left.

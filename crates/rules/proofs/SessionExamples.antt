@@ -3,11 +3,12 @@
 use mathlib.Core.Path.{_≡_, refl}
 use mathlib.Core.Bool.{Bool, true, false}
 use mathlib.Core.List.{List, [], _∷_, _++_, map}
-use Prim.Native.Nat.{ℕ}
+use Prim.Native.Nat.{ℕ, _-_, _^_}
 use lib.Dec.{eqb}
+use lib.ListN.{replicate}
 use Rattle.interface.specs.declared.Session.{Session}
 use Rattle.interface.specs.Answers.{newSession}
-use Rattle.lists.specs.Lists.{if_then_else_, all}
+use Rattle.lists.specs.Lists.{if_then_else_, all, from}
 use Rattle.byteset.specs.Bits.{withBit, withoutBit}
 use Rattle.sector.specs.Contents.{Table, Record, idleRecord, openRecord, decidedRecord}
 use Rattle.volume.specs.Views.{noHeader}
@@ -132,6 +133,11 @@ holds-fit : fourthReads 0 true 1 ∷ fourthReads 0 true 3 ∷ fourthReads 0 fals
     ≡ true ∷ true ∷ false ∷ false ∷ false ∷ []
 unfolding sessionFits markFits clientHoldsFit holdFits isReading all
 holds-fit = refl
+
+-- Every file above F, by itself, up to the last bit.
+files-above : map (λ f. fourthReads 0 true (2 ^ (f - 1))) (from 1 16) ≡ true ∷ true ∷ replicate 14 false
+unfolding sessionFits markFits clientHoldsFit holdFits isReading all
+files-above = refl
 
 -- "of a file whose header names a holder": an active one, client 1; an orphaned one, client 2; the reader itself. The other file
 -- may be held.
