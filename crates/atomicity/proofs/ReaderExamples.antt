@@ -4,7 +4,7 @@ use mathlib.Core.Path.{_≡_, refl, sym, ap}
 use mathlib.Core.Bool.{Bool, true, false, false≢true}
 use mathlib.Core.List.{List, [], _∷_, _++_, map}
 use mathlib.Core.Logic.{_≢_}
-use Prim.Native.Nat.{ℕ}
+use Prim.Native.Nat.{ℕ, _≤_}
 use native.Mathlib.Omega.{arith}
 use lib.Dec.{eqb}
 use lib.ListN.{getD, replicate, set}
@@ -30,7 +30,7 @@ use Rattle.rules.specs.Recovery.{heldFiles, recovery}
 use Rattle.rules.specs.Plans.{Call, begin, openFile, openRead, write, commit, abort, readPage, beginPlan, openReadPlan, plan}
 use Rattle.rules.specs.Refusals.{tests, queryTests}
 use Rattle.rules.specs.Content.{decidedContent}
-use Rattle.rules.specs.Calls.{After, call, query}
+use Rattle.rules.specs.Calls.{After, call, query, queryPart}
 use Rattle.rules.proofs.ExampleViews.{reads, active1, active12}
 use Rattle.atomicity.specs.Model.{Model, newModel, shown, modelCall}
 use Rattle.atomicity.specs.Runs.{Step, calls, asks, Configuration, started, stepped, ranOver}
@@ -76,7 +76,7 @@ wrong-part h = false≢true (ap (λ (d : Bytes). eqb (getD d 0 1) 0) (h 2 1 0 cl
 -- pending in any run.
 page-changes : StepSteady table (run begun both pending7) (calls false (commit 1) 3) → ⊥
 unfolding stepped modelCall call tests plan recovery heldFiles redone cutAt allStores first sessionFits markFits clientHoldsFit holdFits isReading sound lawful canonical encoded all view tableOf recordIn headerIn slotIn decodeTable decodeFiles decodeRecord decodeEntries decodeHeader sector storeAt newVolume newFiles repeated sectorAfter encodeTable fileBytes encodeRecord entryBytes encodeHeader padded
-page-changes h = false≢true (ap startsWith7 (sym (h 2 1 0 client2 page0 refl refl .1)))
+page-changes h = false≢true (ap startsWith7 (sym (h 2 1 0 client2 page0 refl .1)))
 
 -- A question that is refused finds nothing, and one that finds other bytes doesn't find these.
 finds : Finds (page 1 ++ page 2) (page 2) (found 1) × (Finds (page 1 ++ page 2) (page 2) (queryRefused 8) → ⊥) × (Finds (page 1 ++ page 2) (page 2) (found 0) → ⊥)
@@ -90,11 +90,24 @@ ends : map (λ k. map (λ f. map (endsHold 1 2) (begin k ∷ openFile k f ∷ op
     ∷ []
 ends = refl
 
--- Every client, file and page is asked about, at each step of either kind, and the later ones from what the earlier left.
-asked-of-all : (t : Table) (r : Configuration) (x : Step) → Steadily t r (x ∷ []) → (k f p : ℕ) → IsClient t k → IsPage t f p → isReading (givenTo r x) k f ≡ true
-    → (shown (r .model) (readPage k f p) ≡ decidedContent (view (r .volume)) f p)
-    × (isReading (stepped r x .session) k f ≡ true → decidedContent (view (stepped r x .volume)) f p ≡ decidedContent (view (r .volume)) f p)
-asked-of-all t r x h k f p c i on = (h .0 k f p c i on .0, λ after. h .1 k f p c i on after .0)
+-- No begin, open for reading or write ends a hold, whoever makes it.
+ends-none : (k f j g p : ℕ) (d : Bytes) → map (endsHold k f) (begin j ∷ openRead j g ∷ write j g p d ∷ []) ≡ replicate 3 false
+ends-none k f j g p d = refl
+
+-- At each step of either kind every client, file and page is asked about, and the later ones from what the earlier left.
+shown-to-all : (t : Table) (r : Configuration) (x : Step) → ReadersShown t r x → (k f p : ℕ) → IsClient t k → IsPage t f p → isReading (givenTo r x) k f ≡ true
+    → let d = decidedContent (view (r .volume)) f p in
+    (shown (r .model) (readPage k f p) ≡ d) × Finds (r .volume) d (query (r .volume) (givenTo r x) (readPage k f p))
+    × (queryPart (r .volume) (givenTo r x) (readPage k f p) ≡ d)
+shown-to-all t r x h = h
+
+steady-for-all : (t : Table) (r : Configuration) (x : Step) → StepSteady t r x → (k f p : ℕ) → IsClient t k → IsPage t f p → isReading (givenTo r x) k f ≡ true
+    → (decidedContent (view (stepped r x .volume)) f p ≡ decidedContent (view (r .volume)) f p)
+    × (shown (stepped r x .model) (readPage k f p) ≡ shown (r .model) (readPage k f p))
+steady-for-all t r x h = h
+
+asked-of-all : (t : Table) (r : Configuration) (x : Step) → Steadily t r (x ∷ []) → ReadersShown t r x × StepSteady t r x × HoldsStay t r x
+asked-of-all t r x h = (h .0, h .1, h .2)
 
 asked-later : (r : Configuration) (x y : Step) → Steadily table r (x ∷ y ∷ [])
     → ReadersShown table (stepped r x) y × StepSteady table (stepped r x) y × HoldsStay table (stepped r x) y
@@ -107,18 +120,18 @@ stay-of-all : (t : Table) (r : Configuration) (c : Call) (budget : ℕ) → Hold
 stay-of-all t r c budget h = h
 
 -- ------------------------------------------------------------------ while a client holds
--- Client 2 reads through a question and client 1's commit; not through a crash before it, and not through its own commit.
-reads-through : ReadsThrough (run begun both newModel) 2 1 (asks false (readPage 1 1 1) ∷ calls false (commit 1) 3 ∷ [])
+-- Client 2 reads through a question, client 1's commit and its own; not through a crash, and not on after its commit.
+reads-through : ReadsThrough (run begun both newModel) 2 1 (asks false (readPage 1 1 1) ∷ calls false (commit 1) 3 ∷ calls false (commit 2) 3 ∷ [])
 unfolding stepped modelCall call tests plan recovery heldFiles redone cutAt allStores first sessionFits markFits clientHoldsFit holdFits isReading sound lawful canonical encoded all view tableOf recordIn headerIn slotIn decodeTable decodeFiles decodeRecord decodeEntries decodeHeader sector storeAt newVolume newFiles repeated sectorAfter encodeTable fileBytes encodeRecord entryBytes encodeHeader padded
-reads-through = (refl, refl, (refl, refl, tt))
+reads-through = (refl, (refl, (refl, tt)))
 
 not-through-crash : ReadsThrough (run begun both newModel) 2 1 (calls true (begin 1) 3 ∷ []) → ⊥
 unfolding isReading
 not-through-crash h = false≢true (h .0)
 
-not-through-commit : ReadsThrough (run begun both newModel) 2 1 (calls false (commit 2) 3 ∷ []) → ⊥
+not-through-commit : ReadsThrough (run begun both newModel) 2 1 (calls false (commit 2) 3 ∷ calls false (begin 2) 3 ∷ []) → ⊥
 unfolding stepped modelCall call tests plan recovery heldFiles redone cutAt allStores first sessionFits markFits clientHoldsFit holdFits isReading sound lawful canonical encoded all view tableOf recordIn headerIn slotIn decodeTable decodeFiles decodeRecord decodeEntries decodeHeader sector storeAt newVolume newFiles repeated sectorAfter encodeTable fileBytes encodeRecord entryBytes encodeHeader padded
-not-through-commit h = false≢true (h .1)
+not-through-commit h = false≢true (h .1 .0)
 
 -- ------------------------------------------------------------------ the claims hold of this volume
 steady-here : ReadersSteady → (steps : List Step) → Steadily table (started fresh) steps
@@ -130,11 +143,6 @@ while-here : SteadyWhile → (before steps : List Step) (k f p : ℕ) → IsClie
 unfolding format formatTests lengthFits shapeFits endFits first all filesOf sectorAfter
 while-here h = h (replicate 2304 0xEE) 2 shape refl
 
-unchanged : (r r′ : Configuration) (k f p : ℕ) → Unchanged r r′ k f p
-    → (decidedContent (view (r′ .volume)) f p ≡ decidedContent (view (r .volume)) f p)
-    × (shown (r′ .model) (readPage k f p) ≡ shown (r .model) (readPage k f p))
-unchanged r r′ k f p h = h
-
 -- Clients 1 and 2 share file 1, with a budget of 1 for each call.
 sharing-is : sharing 1 2 3 ≡ begin 1 ∷ begin 2 ∷ openRead 1 3 ∷ openRead 2 3 ∷ []
 sharing-is = refl
@@ -144,9 +152,10 @@ shared : (answersTo (started fresh) 1 (sharing 1 2 1) ≡ done 1 ∷ done 1 ∷ 
 unfolding modelCall call tests plan beginPlan openReadPlan withBit recovery heldFiles cutAt allStores first sessionFits markFits clientHoldsFit holdFits isReading sound lawful canonical encoded all view tableOf recordIn headerIn slotIn decodeTable decodeFiles decodeRecord decodeEntries decodeHeader sector storeAt newVolume newFiles repeated sectorAfter encodeTable fileBytes encodeRecord entryBytes encodeHeader padded
 shared = (refl, refl)
 
-share-here : ReadersShare → (answersTo (started fresh) 1 (sharing 1 2 1) ≡ done 1 ∷ done 1 ∷ done 0 ∷ done 0 ∷ [])
-    × (isReading (calledAll (started fresh) 1 (sharing 1 2 1) .session) 1 1 ≡ true)
-    × (isReading (calledAll (started fresh) 1 (sharing 1 2 1) .session) 2 1 ≡ true)
+share-all : ReadersShare → (j k f budget : ℕ) → let r = started fresh in
+    IsClient table j → IsClient table k → j ≢ k → IsFile table f → 1 ≤ budget
+    → (answersTo r budget (sharing j k f) ≡ done 1 ∷ done 1 ∷ done 0 ∷ done 0 ∷ [])
+    × (isReading (calledAll r budget (sharing j k f) .session) j f ≡ true)
+    × (isReading (calledAll r budget (sharing j k f) .session) k f ≡ true)
 unfolding format formatTests lengthFits shapeFits endFits first all filesOf sectorAfter
-share-here h = h (replicate 2304 0xEE) 2 shape refl 1 2 1 1 (record { low = omega arith; high = omega arith }) client2 (λ e. omega arith)
-    (record { low = omega arith; high = omega arith }) (omega arith)
+share-all h = h (replicate 2304 0xEE) 2 shape refl

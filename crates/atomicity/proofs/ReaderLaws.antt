@@ -1,21 +1,22 @@
 -- Readers are steady. Only a commit changes the model's pages, by the pending pages of its client; those are of files that it holds,
--- and nobody holds a file that is read. For the same reason a reader has no page of the file pending itself, so it is shown the
--- model's page, which is the decided content. None of read's tests applies to it, so a read finds that and hands it back.
+-- and nobody holds a file that is read. For the same reason a reader has no page of the file pending itself, before the step and after
+-- it, so it is shown the model's page, which is the decided content. None of read's tests applies to it, so a read finds that and hands
+-- it back.
 use mathlib.Core.Path.{_≡_, refl, sym, ap, _∙_}
-use mathlib.Core.Bool.{Bool, true, false, _||_}
+use mathlib.Core.Bool.{Bool, true, false, _&&_, _||_}
 use mathlib.Core.List.{List, [], _∷_, _++_}
-use mathlib.Core.Option.{Option, none, Option·getD}
+use mathlib.Core.Option.{Option, none, some, Option·getD}
 use Prim.Native.Nat.{ℕ, _≤_, _<_}
 use native.Mathlib.Omega.{arith}
-use borrow.Author.Tests.{lt-ltb}
-use lib.Dec.{eqb}
+use borrow.Author.Tests.{eqb-true, lt-ltb}
+use lib.Dec.{eqb, leb}
 use lib.ListN.{length}
 use Rattle.interface.specs.declared.Session.{Session}
-use Rattle.interface.specs.Answers.{done, refused}
+use Rattle.interface.specs.Answers.{done, crashed, refused}
 use Rattle.lists.specs.Lists.{if_then_else_, first}
 use Rattle.sector.specs.Contents.{Bytes, Table}
 use Rattle.sector.specs.Entries.{forPage}
-use Rattle.lists.proofs.ListLaws.{no-both}
+use Rattle.lists.proofs.ListLaws.{and-left}
 use Rattle.lists.proofs.CaseLaws.{if-test}
 use Rattle.lists.proofs.SearchLaws.{or-true, find-none}
 use Rattle.volume.specs.Places.{fileAt, IsClient, IsFile, IsPage}
@@ -31,10 +32,9 @@ use Rattle.rules.specs.Plans.{Call, begin, openFile, openRead, write, commit, a
 use Rattle.rules.specs.Refusals.{queryTests}
 use Rattle.rules.specs.Content.{decidedContent}
 use Rattle.rules.specs.Calls.{After, call, query, queryPart}
-use Rattle.rules.proofs.SessionLaws.{new-unread}
 use Rattle.rules.proofs.CallLaws.{call-case, query-answered}
-use Rattle.rules.proofs.AllowedLaws.{Active, Reader, Ready, Allowed, ready, running-foreign}
-use Rattle.atomicity.specs.Model.{Pending, Model, overlaid, shown, emptied, effect, settled, modelCall}
+use Rattle.rules.proofs.AllowedLaws.{Active, Reader, Ready, MayAct, Allowed, ready, running-foreign}
+use Rattle.atomicity.specs.Model.{Pending, noPending, Model, overlaid, shown, emptied, withPage, committed, effect, settled, modelCall}
 use Rattle.atomicity.specs.Runs.{Step, calls, asks, Configuration, started, given, stepped, ranOver}
 use Rattle.atomicity.specs.Readers.{Finds, Unchanged, StepSteady, HoldsStay, Steadily, ReadersSteady, ReadsThrough, SteadyWhile}
 use Rattle.atomicity.proofs.KeepLaws.{pendingIn}
@@ -54,10 +54,13 @@ module _ {a : View} {s : Session} {k f : ℕ} (ok : Ready a s) (x : Reader s k f
   none-pending j p w = rw (find-none (forPage f p) (a .records j .entries)
       (running-foreign (ok .runs j w) f (λ e. omega (arith, w .low, e, ok .reads k f x .free)) (λ e. eqb (e .page) p)))
 
-  reader-shown : (m : Model) → Matches a s m → (p : ℕ) → shown m (readPage k f p) ≡ m .pages f p
-  reader-shown m h p =
-      ap (λ (l : Pending). overlaid l (m .pages) f p) (read-pending a s m h k reader-active)
-      ∙ ap (λ (o : Option Bytes). Option·getD o (m .pages f p)) (none-pending k p reader-active)
+  -- Nor has the reader itself, in the model.
+  reader-none : (m : Model) → Matches a s m → (p : ℕ) → m .pending k f p ≡ none
+  reader-none m h p = ap (λ (l : Pending). l f p) (read-pending a s m h k reader-active) ∙ none-pending k p reader-active
+
+-- Who has no page pending is shown the model's.
+shown-page : (m : Model) (k f p : ℕ) → m .pending k f p ≡ none → shown m (readPage k f p) ≡ m .pages f p
+shown-page m k f p e = ap (λ (o : Option Bytes). Option·getD o (m .pages f p)) e
 
 -- None of the tests of its read applies.
 reader-passes : {v : Volume} {s : Session} {k f p : ℕ} → Steady v s → Ready (view v) s → Reader s k f → IsClient (view v .table) k
@@ -81,10 +84,34 @@ module _ (v : Volume) (s : Session) (m : Model) (h : Matches (view v) s m) (ok :
   abbrev m′ : Model
   m′ = if noneActive s then emptied m else m
 
-  start : m′ .pages f p ≡ m .pages f p
-  start = if-test (λ (n : Model). n .pages f p ≡ m .pages f p) (noneActive s) (emptied m) m (λ e. refl) (λ e. refl)
+  -- The page is as it was, and the reader has none pending.
+  abbrev Kept : Model → Type 0
+  Kept n = (n .pages f p ≡ m .pages f p) × (n .pending k f p ≡ none)
 
-  refused-stays : (c : Call) (n : ℕ) → effect m′ c (refused n) .pages f p ≡ m .pages f p
+  start : Kept m′
+  start = if-test Kept (noneActive s) (emptied m) m (λ e. (refl, refl)) (λ e. (refl, reader-none ok x m h p))
+
+  -- The pending pages of client j become these, which have none if j is the reader.
+  becomes : (j : ℕ) (l : Pending) → (k ≡ j → l f p ≡ none) → (if eqb k j then l else m′ .pending k) f p ≡ none
+  becomes j l w = if-test (λ (y : Pending). y f p ≡ none) (eqb k j) l (m′ .pending k) (λ e. w (eqb-true k j e)) (λ e. start .1)
+
+  -- The reader writes other files.
+  written : (j g q : ℕ) (d : Bytes) → Allowed (view v) s (write j g q d) → k ≡ j → withPage g q d (m′ .pending j) f p ≡ none
+  written j g q d w e = if-test (λ (o : Option Bytes). o ≡ none) (eqb f g && eqb p q) (some d) (m′ .pending j f p)
+      (λ z. let same : f ≡ g = eqb-true f g (and-left (eqb f g) (eqb p q) z) in
+      absurd (omega (arith, x .low, e, rw (← same) at (w .holder), ok .reads k f x .free)))
+      (λ z. rw (← e) (start .1))
+
+  -- Who commits has no page of the file pending.
+  commit-stays : (j : ℕ) → MayAct (view v) s j → Kept (committed m′ j)
+  commit-stays j w =
+      let own = faithful (view v) s m h .tracked j (w .active .low) (w .active .high) .active (w .active .on) in (
+        ap (λ (l : Pending). overlaid l (m′ .pages) f p) own
+            ∙ ap (λ (o : Option Bytes). Option·getD o (m′ .pages f p)) (none-pending ok x j p (w .active)) ∙ start .0,
+        becomes j noPending (λ e. refl),
+      )
+
+  refused-stays : (c : Call) (n : ℕ) → Kept (effect m′ c (refused n))
   refused-stays (begin j) n = start
   refused-stays (openFile j g) n = start
   refused-stays (openRead j g) n = start
@@ -92,24 +119,26 @@ module _ (v : Volume) (s : Session) (m : Model) (h : Matches (view v) s m) (ok :
   refused-stays (commit j) n = start
   refused-stays (abort j) n = start
 
-  done-stays : (c : Call) (n : ℕ) → Allowed (view v) s c → effect m′ c (done n) .pages f p ≡ m .pages f p
+  done-stays : (c : Call) (n : ℕ) → Allowed (view v) s c → Kept (effect m′ c (done n))
   done-stays (begin j) n w = start
   done-stays (openFile j g) n w = start
   done-stays (openRead j g) n w = start
-  done-stays (write j g q d) n w = start
-  done-stays (commit j) n w =
-      let own = faithful (view v) s m h .tracked j (w .active .low) (w .active .high) .active (w .active .on) in
-      ap (λ (l : Pending). overlaid l (m′ .pages) f p) own
-      ∙ ap (λ (o : Option Bytes). Option·getD o (m′ .pages f p)) (none-pending ok x j p (w .active)) ∙ start
-  done-stays (abort j) n w = start
+  done-stays (write j g q d) n w = (start .0, becomes j (withPage g q d (m′ .pending j)) (written j g q d w))
+  done-stays (commit j) n w = commit-stays j w
+  done-stays (abort j) n w = (start .0, becomes j noPending (λ e. refl))
 
-  -- A crash hands back a session without holds.
-  pages-stay : (c : Call) (budget : ℕ) → let y = call v s c budget in
-      isReading (y .session) k f ≡ true → modelCall m s c (y .answer) .pages f p ≡ m .pages f p
+  crashed-stays : (c : Call) (n : ℕ) → Allowed (view v) s c → Kept (effect m′ c (crashed n))
+  crashed-stays (begin j) n w = start
+  crashed-stays (openFile j g) n w = start
+  crashed-stays (openRead j g) n w = start
+  crashed-stays (write j g q d) n w = start
+  crashed-stays (commit j) n w = if-test Kept (leb 1 n) (committed m′ j) m′ (λ e. commit-stays j w) (λ e. start)
+  crashed-stays (abort j) n w = start
+
+  call-keeps : (c : Call) (budget : ℕ) → Kept (modelCall m s c (call v s c budget .answer))
   unfolding modelCall
-  pages-stay c budget = call-case
-      (λ (y : After). isReading (y .session) k f ≡ true → settled (y .answer) (effect m′ c (y .answer)) .pages f p ≡ m .pages f p) v s c budget
-      (λ n e on. refused-stays c n) (λ w le on. done-stays c _ (w .allowed)) (λ w lt on. no-both _ on (new-unread k f))
+  call-keeps c budget = call-case (λ (y : After). Kept (settled (y .answer) (effect m′ c (y .answer)))) v s c budget
+      (λ n e. refused-stays c n) (λ w le. done-stays c _ (w .allowed)) (λ w lt. (crashed-stays c _ (w .allowed) .0, refl))
 
 -- ------------------------------------------------------------------ a step
 -- A configuration that is related to its model and steady, and the session that a step is given.
@@ -143,7 +172,7 @@ module _ {t : Table} {r : Configuration} (h : Related t r) (ok : Steady (r .volu
   readers-shown k f p c i on =
       let s = given crash (r .session) in
       let x : Reader (given crash (r .session)) k f = reader c (i .file) on in
-      let is = reader-shown is-ready x (r .model) matches p ∙ sym (content f p i) in
+      let is = shown-page (r .model) k f p (reader-none is-ready x (r .model) matches p) ∙ sym (content f p i) in
       let found = query-answered (r .volume) s (readPage k f p) (reader-passes steady is-ready x (rw (h .table) c) (rw (h .table) i)) in
       let agrees = rw found at (query-matches (r .volume) s (r .model) matches (readPage k f p)) in
       (is, rw found (agrees .0 ∙ is), agrees .1 ∙ is)
@@ -168,15 +197,17 @@ steadily t r (calls crash c budget ∷ xs) h ok =
     fit = call-steady (steady h ok crash) c budget
 
     same : StepSteady t r (calls crash c budget)
-    same k f p client page on after =
-        let stay = pages-stay (r .volume) s (r .model) (matches h ok crash) (is-ready h ok crash) k f p (reader h ok crash client (page .file) on) c budget after in
-        let kept = content next fit false f p page ∙ stay ∙ sym (content h ok crash f p page) in
-        (kept, readers-shown next fit false k f p client page after .0 ∙ kept ∙ sym (readers-shown h ok crash k f p client page on .0))
+    same k f p client page on =
+        let keeps = call-keeps (r .volume) s (r .model) (matches h ok crash) (is-ready h ok crash) k f p (reader h ok crash client (page .file) on) c budget in
+        let before = keeps .0 ∙ sym (content h ok crash f p page) in (
+          content next fit false f p page ∙ before,
+          shown-page (stepped r (calls crash c budget) .model) k f p (keeps .1) ∙ before ∙ sym (readers-shown h ok crash k f p client page on .0),
+        )
 
     stay : HoldsStay t r (calls crash c budget)
     stay k f client file on e = holds-stay s (steady h ok crash .words) (reader h ok crash client file on) (r .volume) c budget e
 steadily t r (asks crash q ∷ xs) h ok =
-    (readers-shown h ok crash, (λ k f p client page on after. (refl, refl)), tt, steadily t r xs h ok)
+    (readers-shown h ok crash, (λ k f p client page on. (refl, refl)), tt, steadily t r xs h ok)
 
 -- From any sound volume with the content that it has.
 pub steadily-from : (v : Volume) (steps : List Step) → sound v ≡ true → Steadily (view v .table) (startedAs v) steps
@@ -194,8 +225,8 @@ through : (t : Table) (r : Configuration) (steps : List Step) → Steadily t r s
     → ReadsThrough r k f steps → Unchanged r (ranOver r steps) k f p
 through t r [] h k f p c i w = (refl, refl)
 through t r (x ∷ xs) h k f p c i w =
-    let now = h .1 k f p c i (w .0) (w .1) in
-    let later = through t (stepped r x) xs (h .3) k f p c i (w .2) in
+    let now = h .1 k f p c i (w .0) in
+    let later = through t (stepped r x) xs (h .3) k f p c i (w .1) in
     (later .0 ∙ now .0, later .1 ∙ now .1)
 
 -- Steadiness of a list is steadiness of its end.

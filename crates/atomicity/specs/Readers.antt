@@ -51,11 +51,10 @@ Unchanged r r′ k f p =
     (decidedContent (view (r′ .volume)) f p ≡ decidedContent (view (r .volume)) f p)
     × (shown (r′ .model) (readPage k f p) ≡ shown (r .model) (readPage k f p))
 
--- So it is of a client that holds the file for reading in the session given and in the one after the step.
+-- So it is of a client that holds the file for reading in the session given, whether or not it holds it after the step.
 abbrev pub StepSteady : Table → Configuration → Step → Type 0
 StepSteady t r x =
-    (k f p : ℕ) → IsClient t k → IsPage t f p → isReading (givenTo r x) k f ≡ true → isReading (stepped r x .session) k f ≡ true
-    → Unchanged r (stepped r x) k f p
+    (k f p : ℕ) → IsClient t k → IsPage t f p → isReading (givenTo r x) k f ≡ true → Unchanged r (stepped r x) k f p
 
 -- What ends client k's reading hold of file f, besides a crash: k's commit, k's abort, and k's open of f for writing.
 abbrev pub endsHold : (client file : ℕ) → Call → Bool
@@ -86,11 +85,10 @@ ReadersSteady =
     → (steps : List Step) → Steadily (tableFor (length v) T l) (started (format v T l .volume)) steps
 
 -- ------------------------------------------------------------------ over several steps
--- Client k holds file f for reading before and after each of these steps.
+-- Client k holds file f for reading in the session given to each of these steps.
 abbrev pub ReadsThrough : Configuration → ℕ → ℕ → List Step → Type 0
 ReadsThrough r k f [] = Unit {0}
-ReadsThrough r k f (x ∷ xs) =
-    (isReading (givenTo r x) k f ≡ true) × (isReading (stepped r x .session) k f ≡ true) × ReadsThrough (stepped r x) k f xs
+ReadsThrough r k f (x ∷ xs) = (isReading (givenTo r x) k f ≡ true) × ReadsThrough (stepped r x) k f xs
 
 -- Then no page of it has changed in the end, whatever came before.
 abbrev pub SteadyWhile : Type 0

@@ -140,8 +140,8 @@ pub fn write(
 }
 
 // Ends the client's transaction: its pages become the files' content. The first store decides; the others free the files.
-// Ruled out: only the first held file handled (`rules/must-fail/file_1_only`); the session handed back unchanged
-// (`sessions/must-fail/mark_after_commit`, `hold_after_commit`).
+// Ruled out: only the first held file handled (`rules/must-fail/file_1_only`); another client's transaction ended in the session
+// (`must-fail/commit_ends_client_1`), the mark or the holds kept there (`sessions/must-fail/mark_after_commit`, `hold_after_commit`).
 pub fn commit(volume: &mut [u8], session: Session, client: u8, budget: u8) -> Reply
     ensures { λ r. ⌜ replied r (now (volume .exit)) ≡ call (now (volume .entry)) session (Rattle.rules.specs.Plans.commit client) budget ⌝ }
 {

@@ -109,11 +109,16 @@ called : map (call tiny active1 (abort 1)) (2 ∷ 1 ∷ [])
 unfolding call tests plan recovery heldFiles allStores first sessionFits markFits clientHoldsFit isReading sound lawful canonical encoded all view tableOf recordIn headerIn decodeTable decodeFiles decodeRecord decodeEntries decodeHeader sector cutAt storeAt newVolume newFiles repeated sectorAfter encodeTable fileBytes encodeRecord entryBytes encodeHeader padded
 called = refl
 
--- The session after an open for reading goes by the volume from before it: where client 1 holds the file no hold is noted, and where
--- nobody holds it, it is.
+-- The session after an open for reading: where client 1 holds the file for writing no hold is noted, and where nobody holds it, it is.
 reading-noted : map (λ v. executed v active1 (openRead 1 1) 0 [] .session) (tiny ∷ half ∷ []) ≡ active1 ∷ reads active1 (1 ∷ 0 ∷ 0 ∷ 0 ∷ []) ∷ []
 unfolding isReading withBit view tableOf recordIn headerIn decodeTable decodeFiles decodeRecord decodeEntries decodeHeader sector cutAt storeAt newVolume newFiles repeated sectorAfter encodeTable fileBytes encodeRecord entryBytes encodeHeader padded
 reading-noted = refl
+
+-- It goes by the volume from before the call, also where a store takes client 1's hold for writing away.
+hold-from-before : executed tiny active1 (openRead 1 1) 1
+    (record { target = 2; bytes = encodeHeader (record { pages = 2; slots = 3 }) (header 0 (0 ∷ 1 ∷ [])) } ∷ []) .session ≡ active1
+unfolding isReading withBit view tableOf recordIn headerIn decodeTable decodeFiles decodeRecord decodeEntries decodeHeader sector cutAt storeAt newVolume newFiles repeated sectorAfter encodeTable fileBytes encodeRecord entryBytes encodeHeader padded
+hold-from-before = refl
 
 -- The stores are those for the session given: client 1, marked, isn't recovered first.
 session-counts : callBy 0 tiny active1 (begin 1) 1 ≡ ends (done 1) active1 (storeAt tiny 1 (encodeRecord openRecord))

@@ -116,6 +116,12 @@ open-read-refused : map (λ f. applying (tests true at3 active3 (openRead 3 f)))
 unfolding tests sessionFits markFits clientHoldsFit isReading all
 open-read-refused = refl
 
+-- It is about the file named: client 1 writes file 2, and nobody has file 1.
+writer-of-one : map (λ f. applying (tests true (seen (λ k. openRecord) (header 0 (1 ∷ 5 ∷ 2 ∷ [])) (header 1 (0 ∷ []))) active12 (openRead 2 f))) (1 ∷ 2 ∷ [])
+    ≡ [] ∷ (7 ∷ []) ∷ []
+unfolding tests sessionFits markFits clientHoldsFit isReading all
+writer-of-one = refl
+
 -- 6, 8 and 9 of a read: file 3, which has no page; file 1 for client 3; page 1 of file 2.
 read-refused : applying (queryTests true (at 1) active1 (readPage 1 3 0)) ∷ applying (queryTests true at3 active3 (readPage 3 1 0))
     ∷ applying (queryTests true (at 1) active1 (readPage 1 2 1)) ∷ []
@@ -148,8 +154,10 @@ read-held : map (λ k. applying (queryTests true begun reading (readPage k 1 0))
 unfolding queryTests sessionFits markFits clientHoldsFit holdFits isReading all
 read-held = refl
 
--- 16, "a write to a file held only for reading", and nothing else is wrong; a file that isn't held gets 8 alone.
-write-read-only : map (λ k. applying (tests true begun reading (write k 1 0 whole))) (1 ∷ 3 ∷ []) ≡ (16 ∷ []) ∷ (8 ∷ []) ∷ []
+-- 16, "a write to a file held only for reading", and nothing else is wrong; a file that isn't held gets 8 alone. Client 1 reads file 1,
+-- client 3 file 2.
+write-read-only : map (λ k. map (λ f. applying (tests true begun reading (write k f 0 whole))) (1 ∷ 2 ∷ [])) (1 ∷ 3 ∷ [])
+    ≡ ((16 ∷ []) ∷ (8 ∷ []) ∷ []) ∷ ((8 ∷ []) ∷ (16 ∷ []) ∷ []) ∷ []
 unfolding tests sessionFits markFits clientHoldsFit holdFits isReading freeSlots all
 write-read-only = refl
 

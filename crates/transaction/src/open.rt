@@ -51,7 +51,8 @@ pub fn open_stores(v: &mut [u8], k: u8, f: u8, budget: u8) -> Run
 
 // The stores of open for reading: none if k or nobody holds f. Another holder, which is orphaned where the call isn't refused,
 // is recovered. So it is for every session in which no other active client holds f, and in which k holds f for reading only
-// if nobody holds it. Ruled out: no recovery (`rules/must-fail/read_without_recovery`); k named in the header.
+// if nobody holds it. Ruled out: no recovery (`rules/must-fail/read_without_recovery`), or another client's
+// (`must-fail/open_read_recovers_itself`); k named in the header.
 pub fn open_read_stores(v: &mut [u8], k: u8, f: u8, budget: u8) -> Run
     requires { ⌜ WellFormed (now v) × IsFile (view (now v) .table) f
         × (headerFits (view (now v) .records) (view (now v) .table) f (view (now v) .headers f) ≡ true) ⌝ }
