@@ -2,12 +2,13 @@
 -- agree. The checker evaluates both sides.
 use mathlib.Core.Path.{_≡_, refl, ap}
 use mathlib.Core.Bool.{true, false}
-use mathlib.Core.List.{List, [], _∷_, _++_}
+use mathlib.Core.List.{List, [], _∷_, _++_, map}
 use Prim.Native.Nat.{ℕ}
 use native.Mathlib.Omega.{arith}
 use lib.ListN.{replicate}
 use Rattle.interface.specs.declared.Session.{Session}
 use Rattle.interface.specs.Answers.{newSession, done, crashed, refused, found, queryRefused}
+use Rattle.lists.specs.Lists.{from}
 use Rattle.sector.specs.Contents.{Bytes, Table}
 use Rattle.sector.specs.Sectors.{byte, padded}
 use Rattle.volume.specs.Volumes.{Volume}
@@ -16,8 +17,9 @@ use Rattle.atomicity.specs.Model.{newModel}
 use Rattle.atomicity.specs.Runs.{Step, calls, asks}
 use Rattle.atomicity.specs.AllOrNone.{PagesAgree}
 use Rattle.atomicity.specs.Transcripts.{ofCall, ofQuery, Event}
+use Rattle.commands.specs.declared.Action.{Action}
 use Rattle.commands.specs.Commands.{stepOf}
-use Rattle.replay.specs.Scripts.{commandIn, isWhole, stepIn, stepsFrom, steps}
+use Rattle.replay.specs.Scripts.{actionOf, commandIn, isWhole, stepIn, stepsFrom, steps}
 use Rattle.replay.specs.Transcripts.{headBytes, entryOf, transcript, eventIn, eventsIn}
 use Rattle.replay.specs.Replays.{ran, hasRoom, AllOrNoneFor, WhereRun}
 
@@ -52,6 +54,10 @@ itsSteps =
 script-steps : steps script ≡ itsSteps
 unfolding stepsFrom stepIn commandIn stepOf isWhole
 script-steps = refl
+
+-- 5 and every byte above 6 is a read.
+reads : map actionOf (5 ∷ from 7 249) ≡ replicate 250 Action.Read
+reads = refl
 
 -- The length of the data, low byte first: a page is 256 bytes.
 page-step : steps (2 ∷ 0 ∷ 1 ∷ 1 ∷ 0 ∷ 255 ∷ 0 ∷ 1 ∷ replicate 256 0xA1) ≡ calls false (write 1 1 0 (replicate 256 0xA1)) 255 ∷ []
