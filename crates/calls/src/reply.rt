@@ -21,7 +21,7 @@ pub fn refuse(s: Session, r: Refusal) -> Reply
 }
 
 // A call that made its stores, or as many as its budget allowed. After a crash the session is a new one. Ruled out: marks and
-// holds that outlast a crash (`must-fail/session_after_cut`).
+// holds that outlast a crash (`rules/must-fail/hold_after_cut`).
 pub fn end(run: Run, s: Session) -> Reply
     ensures { λ q. ⌜ ((w : List ℕ) → replied q w ≡ endedBy (run .made) (run .crashed) s w) ⌝ }
 {

@@ -28,7 +28,7 @@ pub fn is_reading(s: Session, k: u8, f: u8) -> bool
 }
 
 // The session with client k's reading hold of file f. Ruled out: the hold of another file (`must-fail/files_from_the_top`);
-// the client's other holds gone (`must-fail/other_holds_dropped`).
+// the hold not noted, or the client's others gone (`must-fail/hold_not_noted`).
 pub fn with_reading(mut s: Session, k: u8, f: u8) -> Session
     requires { ⌜ (1 ≤ k) × (k ≤ 4) × (1 ≤ f) × (f ≤ 16) ⌝ }
     ensures { λ r. ⌜ r ≡ withReading s k f ⌝ }

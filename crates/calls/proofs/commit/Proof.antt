@@ -1,5 +1,6 @@
 -- `commit` meets its contract: a refusal is the call's, and so are the stores of its plan.
 use mathlib.Core.Path.{sym, ap, _∙_}
+use native.Mathlib.Omega.{arith}
 use borrow.Author.Needs.{needs}
 use Rattle.rules.specs.Plans.{commit}
 use Rattle.calls.proofs.FactLaws.{call-formed, acts}
@@ -21,7 +22,8 @@ without-client-requires c κs =
     let q = b .before .before .before .before in
     let s = q .before .before .before in
     let e = (ap numberOf (sym (b .before .before .enum-told .given .1)) ∙ q .check-active .ensures) in
-    (acts (s .args .volume .now) (s .args .session) (s .args .client) e .client .low, acts (s .args .volume .now) (s .args .session) (s .args .client) e .few)
+    let x = acts (s .args .volume .now) (s .args .session) (s .args .client) e in
+    (omega (arith, x .client .low), omega (arith, x .few))
 
 returns : tie.Need-returns
 returns c =
