@@ -16,7 +16,7 @@ use Rattle.volume.specs.Format.{tableFor, format}
 use Rattle.volume.proofs.SoundLaws.{Fine, fine, fine-sound}
 use Rattle.volume.proofs.FormatLaws.{new-fine, FormatFacts, format-done}
 use Rattle.rules.specs.Sessions.{sessionFits}
-use Rattle.rules.specs.Plans.{Call, Query, readPage, sessionAfter}
+use Rattle.rules.specs.Plans.{Call, Query, readPage, lookPage, sessionAfter}
 use Rattle.rules.specs.Calls.{After, call, query}
 use Rattle.rules.proofs.SessionLaws.{new-fits}
 use Rattle.rules.proofs.CallLaws.{call-case, call-left, query-case}
@@ -66,6 +66,8 @@ module _ {v : Volume} {s : Session} (h : Steady v s) where
 
   query-later : (q : Query) → Later (queryRefusalOf (query v s q))
   query-later (readPage k f p) = query-case (λ (x : QueryAnswer). Later (queryRefusalOf x)) v s (readPage k f p)
+      (λ n later. later (h .volume) (h .session)) (λ fine w e. (omega arith, omega arith))
+  query-later (lookPage f p) = query-case (λ (x : QueryAnswer). Later (queryRefusalOf x)) v s (lookPage f p)
       (λ n later. later (h .volume) (h .session)) (λ fine w e. (omega arith, omega arith))
 
 -- ------------------------------------------------------------------ every list of steps

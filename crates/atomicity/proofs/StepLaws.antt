@@ -1,4 +1,4 @@
--- A step on a volume keeps the relation with the model: a call however it ends, and a read hands back what the model shows.
+-- A step on a volume keeps the relation with the model: a call however it ends, and a question hands back what the model shows.
 -- A call's end is one of three: refused, so nothing changes; done or crashed, so the view is the one after its updates or after
 -- a prefix of them, of which the laws over views speak.
 use mathlib.Core.Path.{_≡_, refl, sym, ap, _∙_}
@@ -23,13 +23,13 @@ use Rattle.volume.proofs.LawfulLaws.{Lawful, EntryFacts, entry-facts}
 use Rattle.volume.proofs.AlongLaws.{Along, changed-table}
 use Rattle.volume.proofs.SoundLaws.{Fine, cut-view, cut-all, cut-fine}
 use Rattle.rules.specs.Sessions.{holds, noneActive}
-use Rattle.rules.specs.Plans.{Call, begin, openFile, openRead, write, commit, abort, Query, readPage, entryFor, slotFor, plan}
+use Rattle.rules.specs.Plans.{Call, begin, openFile, openRead, write, commit, abort, Query, readPage, lookPage, entryFor, slotFor, plan}
 use Rattle.rules.specs.Calls.{After, callStores, call, query, partOf}
-use Rattle.rules.specs.Content.{decidedMap}
+use Rattle.rules.specs.Content.{decidedMap, decidedSlot}
 use Rattle.rules.proofs.CallLaws.{Passed, call-case, call-left, query-case}
 use Rattle.rules.proofs.SessionLaws.{none-active}
 use Rattle.rules.proofs.AllowedLaws.{Active, MayRead, read-holder, own-record, slot-below}
-use Rattle.rules.proofs.ContentLaws.{unheld-map}
+use Rattle.rules.proofs.ContentLaws.{unheld-map, decided-below}
 use Rattle.atomicity.specs.Model.{Pending, Model, overlaid, shown, emptied, effect, modelCall}
 use Rattle.atomicity.specs.AllOrNone.{QueryAgrees}
 use Rattle.atomicity.proofs.KeepLaws.{bytesFor, pendingIn}
@@ -76,7 +76,7 @@ pub call-table : (v : Volume) (s : Session) (c : Call) (budget : ℕ) → view (
 call-table v s c budget = call-left (λ w. view w .table ≡ view v .table) v s c budget refl
     (λ ok. ap (λ (a : View). a .table) (left-view v s c ok budget) ∙ changed-table (take budget (plan (view v) s c)) (view v))
 
--- ------------------------------------------------------------------ a read
+-- ------------------------------------------------------------------ a question
 -- A file that a client reads, by either hold, has its decided map for its map: nobody holds it, or the client, which isn't decided.
 read-map : {a : View} {s : Session} {k f p : ℕ} → MayRead a s k f p → decidedMap a f ≡ a .headers f .map
 read-map {a} {s} {k} {f} w = by-test (holds a k f) (λ e. own-map (w .act) f (eqb-true _ _ e))
@@ -102,4 +102,9 @@ query-matches v s m h (readPage k f p) = query-case (QueryAgrees v s m (readPage
     let same : sector v (sectorOf (view v .table) (slotPlace f (slotFor (view v) f p (entryFor (view v) k f p)))) ≡ shown m (readPage k f p)
     = sym (slot-is v f _ (w .file) (slot-below w o refl)) ∙ slot-shown (view v) s m h k f p w o refl
     ∙ ap (λ (l : Pending). overlaid l (m .pages) f p) (sym (read-pending (view v) s m h k (w .act .active))) in
+    (same, ap (partOf v) e ∙ same))
+query-matches v s m h (lookPage f p) = query-case (QueryAgrees v s m (lookPage f p)) v s (lookPage f p) (λ n e. tt)
+    (λ fine w e.
+    let same : sector v (sectorOf (view v .table) (slotPlace f (decidedSlot (view v) f p))) ≡ m .pages f p
+    = sym (slot-is v f _ (w .file) (decided-below (w .laws) f p (w .file) (w .page))) ∙ h .pages f p (w .file) (w .page) in
     (same, ap (partOf v) e ∙ same))

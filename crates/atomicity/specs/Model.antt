@@ -9,7 +9,7 @@ use Rattle.interface.specs.Answers.{Answer, done, crashed, refused}
 use Rattle.lists.specs.Lists.{if_then_else_}
 use Rattle.sector.specs.Contents.{Bytes}
 use Rattle.rules.specs.Sessions.{noneActive}
-use Rattle.rules.specs.Plans.{Call, begin, openFile, openRead, write, commit, abort, Query, readPage}
+use Rattle.rules.specs.Plans.{Call, begin, openFile, openRead, write, commit, abort, Query, readPage, lookPage}
 
 -- A client's pending pages, the paper's "slip": "pages with their bytes, each (file, page) at most once".
 abbrev pub Pending : Type 0
@@ -32,9 +32,10 @@ newModel = record { pages = λ f p. replicate 256 0; pending = λ k. noPending }
 abbrev pub overlaid : Pending → (ℕ → ℕ → Bytes) → ℕ → ℕ → Bytes
 overlaid l pages f p = Option·getD (l f p) (pages f p)
 
--- A read "shows kiln k the page on k's slip, else the book's page".
+-- A read "shows kiln k the page on k's slip, else the book's page". M-103: a look shows the book's page.
 abbrev pub shown : Model → Query → Bytes
 shown m (readPage k f p) = overlaid (m .pending k) (m .pages) f p
+shown m (lookPage f p) = m .pages f p
 
 -- "empties every slip"
 abbrev pub emptied : Model → Model

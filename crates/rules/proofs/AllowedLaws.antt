@@ -13,7 +13,7 @@ use Rattle.interface.specs.declared.Session.{Session}
 use Rattle.lists.specs.Lists.{first, every}
 use Rattle.sector.specs.Contents.{Bytes, Entry}
 use Rattle.sector.specs.Entries.{forFile}
-use Rattle.lists.proofs.ListLaws.{and-left, and-right, and-both, or-right, or-none, no-both, all-nil, all-cons, all-at, every-at, every-from, every-all}
+use Rattle.lists.proofs.ListLaws.{and-left, and-right, and-both, or-right, or-none, no-both, all-nil, all-cons, all-at, every-from, every-all}
 use Rattle.lists.proofs.CaseLaws.{by-test, by-equal, if-test}
 use Rattle.lists.proofs.SearchLaws.{or-true, every-implies, first-none}
 use Rattle.volume.specs.Places.{isClient, isFile, fileAt}
@@ -23,8 +23,9 @@ use Rattle.volume.proofs.PlaceLaws.{IsFile, client-of, file-of}
 use Rattle.volume.proofs.LawfulLaws.{RecordFacts, HeaderFacts, Lawful, lawful-facts, record-facts, entry-facts}
 use Rattle.rules.specs.Sessions.{holds, holdsEither, isActive, isReading, isReadByOther, markFits, holdFits, marksFit, clientHoldsFit, holdsFit, sessionFits}
 use Rattle.rules.specs.Recovery.{isDecided}
-use Rattle.rules.specs.Plans.{Call, begin, openFile, openRead, write, commit, abort, Query, readPage, entryFor, slotFor, freeSlots, heldByOrphan}
+use Rattle.rules.specs.Plans.{Call, begin, openFile, openRead, write, commit, abort, Query, readPage, lookPage, entryFor, slotFor, freeSlots, heldByOrphan}
 use Rattle.rules.specs.Refusals.{heldByOther, isNewPage, pageMissing, readOnly, tests, queryTests}
+use Rattle.rules.proofs.ContentLaws.{map-below}
 
 -- ------------------------------------------------------------------ sessions
 -- Client j is marked.
@@ -160,8 +161,15 @@ Allowed a s (write k f p d) = MayWrite a s k f p d
 Allowed a s (commit k) = MayAct a s k
 Allowed a s (abort k) = MayAct a s k
 
+-- A look: what every question about a page has.
+pub record MayLook (a : View) (f p : ℕ) : Type 0 where
+  pub laws : Lawful (a .table) a
+  pub file : IsFile (a .table) f
+  pub page : p < fileAt (a .table) f .pages
+
 abbrev pub Answerable : View → Session → Query → Type 0
 Answerable a s (readPage k f p) = MayRead a s k f p
+Answerable a s (lookPage f p) = MayLook a f p
 
 -- The record of an active client.
 pub own-record : {a : View} {s : Session} {k : ℕ} → MayAct a s k → RecordFacts (a .table) (a .records k)
@@ -180,9 +188,7 @@ read-holder {a} {s} {k} {f} w e = record {
 -- The slot that a read finds is one of the file's: given by an entry that fits, or by the map.
 pub slot-below : {a : View} {s : Session} {k f p : ℕ} → MayRead a s k f p → (o : Option Entry) → entryFor a k f p ≡ o
     → slotFor a f p o < fileAt (a .table) f .slots
-slot-below {a} {f = f} {p = p} w none e =
-    let m = w .act .ready .laws .headers f (w .file) .map in
-    ltb-true _ _ (every-at (λ r. ltb r (fileAt (a .table) f .slots)) (a .headers f .map) p 0 (m .below) (rw (m .size) (w .page)))
+slot-below {f = f} {p = p} w none e = map-below (w .act .ready .laws .headers f (w .file) .map) p (w .page)
 slot-below {f = f} {p = p} w (some x) e = entry-facts (own-record (w .act)) f p x e .slot
 
 -- Where open isn't refused, a holder other than k is orphaned, unless there is none: one that is active is refused by 7, one
@@ -200,11 +206,12 @@ holder-orphaned a s k f facts free n = by-equal (a .headers f .holder) 0
 abbrev pub Later : ℕ → Type 0
 Later n = (n ≢ 1) × (n ≢ 2)
 
--- The first test is 1, the second is 2, and the others come later. `ok` is what test 1 asks, `fits` what test 2 asks.
+-- The first test is 1, and the others come later if test 2 isn't among them or doesn't apply. `ok` is what test 1 asks, `fits` what
+-- test 2 asks.
 pub record Ordered (ok fits : Bool) (xs : List (ℕ × Bool)) : Type 0 where
   rest : List (ℕ × Bool)
-  is : xs ≡ (1, not ok) ∷ (2, not fits) ∷ rest
-  high : every (λ x. leb 3 (x .0)) rest ≡ true
+  is : xs ≡ (1, not ok) ∷ rest
+  later : fits ≡ true → Later (first rest)
 
 first-later : (xs : List (ℕ × Bool)) → every (λ x. leb 3 (x .0)) xs ≡ true → Later (first xs)
 unfolding first
@@ -213,6 +220,11 @@ first-later (x ∷ xs) e =
     let three : 3 ≤ x .0 = leb-true _ _ (and-left (leb 3 (x .0)) _ e) in
     if-test Later (x .1) (x .0) (first xs) (λ t. (omega arith, omega arith)) (λ t. first-later xs (and-right (leb 3 (x .0)) _ e))
 
+-- The second test is 2.
+second-later : (fits : Bool) (xs : List (ℕ × Bool)) → every (λ x. leb 3 (x .0)) xs ≡ true → fits ≡ true → Later (first ((2, not fits) ∷ xs))
+unfolding first
+second-later fits xs high e = rw e (first-later xs high)
+
 module _ {ok fits : Bool} {xs : List (ℕ × Bool)} (h : Ordered ok fits xs) where
   pub passed-first : first xs ≡ 0 → ok ≡ true
   unfolding first
@@ -220,21 +232,26 @@ module _ {ok fits : Bool} {xs : List (ℕ × Bool)} (h : Ordered ok fits xs) whe
 
   pub passed-both : ok ≡ true → fits ≡ true → Later (first xs)
   unfolding first
-  passed-both e q = rw (h .is, e, q) (first-later (h .rest) (h .high))
+  passed-both e q = rw (h .is, e) (h .later q)
 
 module _ (ok : Bool) (a : View) (s : Session) where
+  second-tests : {xs : List (ℕ × Bool)} (rest : List (ℕ × Bool)) → xs ≡ (1, not ok) ∷ (2, not (sessionFits a s)) ∷ rest
+      → every (λ x. leb 3 (x .0)) rest ≡ true → Ordered ok (sessionFits a s) xs
+  second-tests rest is high = record { rest = _; is = is; later = second-later (sessionFits a s) rest high }
+
   pub ordered : (c : Call) → Ordered ok (sessionFits a s) (tests ok a s c)
   unfolding tests
-  ordered (begin k) = record { rest = _; is = refl; high = refl }
-  ordered (openFile k f) = record { rest = _; is = refl; high = refl }
-  ordered (openRead k f) = record { rest = _; is = refl; high = refl }
-  ordered (write k f p d) = record { rest = _; is = refl; high = refl }
-  ordered (commit k) = record { rest = _; is = refl; high = refl }
-  ordered (abort k) = record { rest = _; is = refl; high = refl }
+  ordered (begin k) = second-tests _ refl refl
+  ordered (openFile k f) = second-tests _ refl refl
+  ordered (openRead k f) = second-tests _ refl refl
+  ordered (write k f p d) = second-tests _ refl refl
+  ordered (commit k) = second-tests _ refl refl
+  ordered (abort k) = second-tests _ refl refl
 
   pub query-ordered : (q : Query) → Ordered ok (sessionFits a s) (queryTests ok a s q)
   unfolding queryTests
-  query-ordered (readPage k f p) = record { rest = _; is = refl; high = refl }
+  query-ordered (readPage k f p) = second-tests _ refl refl
+  query-ordered (lookPage f p) = record { rest = _; is = refl; later = λ e. first-later _ refl }
 
 -- ------------------------------------------------------------------ from the tests
 module _ (ok : Bool) (a : View) (s : Session) (law : ok ≡ true → lawful a ≡ true) where
@@ -272,6 +289,13 @@ module _ (ok : Bool) (a : View) (s : Session) (law : ok ≡ true → lawful a �
   answerable (readPage k f p) e =
       let no = first-none (queryTests ok a s (readPage k f p)) in
       reading k f p (acting k (is-ready (no 0 refl e) (no 1 refl e)) (no 2 refl e) (no 3 refl e)) (no 4 refl e) (no 5 refl e) (no 6 refl e)
+  answerable (lookPage f p) e =
+      let no = first-none (queryTests ok a s (lookPage f p)) in
+      record {
+        laws = lawful-facts a (law (not-false _ (no 0 refl e)));
+        file = file-of (a .table) f (not-false _ (no 1 refl e));
+        page = ltb-true _ _ (not-false _ (no 2 refl e));
+      }
 
   -- A call that isn't refused. The tests of commit and abort are the same.
   acts : (k : ℕ) → first (tests ok a s (commit k)) ≡ 0 → MayAct a s k

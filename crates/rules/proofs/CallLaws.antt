@@ -15,9 +15,9 @@ use Rattle.volume.specs.Sound.{sound}
 use Rattle.volume.specs.Stores.{cutAt}
 use Rattle.volume.proofs.SoundLaws.{sound-lawful, Fine, fine, fine-sound}
 use Rattle.rules.specs.Sessions.{sessionFits}
-use Rattle.rules.specs.Plans.{Call, Query, sessionAfter}
+use Rattle.rules.specs.Plans.{Call, Query, lookPage, sessionAfter}
 use Rattle.rules.specs.Refusals.{tests, queryTests}
-use Rattle.rules.specs.Calls.{After, callStores, callBy, call, answerTo, queryBy, query}
+use Rattle.rules.specs.Calls.{After, callStores, callBy, call, answerTo, queryBy, query, look}
 use Rattle.rules.proofs.AllowedLaws.{Allowed, Answerable, Later, passed-first, passed-both, ordered, query-ordered, answerable, allowed}
 
 -- ------------------------------------------------------------------ a call
@@ -75,3 +75,8 @@ query-case P v s q r d = go (first (queryTests (sound v) (view v) s q)) refl
     go zero e = d (fine v (passed-first (query-ordered (sound v) (view v) s q) e))
         (answerable (sound v) (view v) s (sound-lawful v) q e) (query-answered v s q e)
     go (suc n) e = r (suc n) (λ h fits. rw e at (passed-both (query-ordered (sound v) (view v) s q) (fine-sound v h) fits))
+
+-- A look is the same whatever session the step is given.
+pub look-asked : (v : Volume) (s : Session) (f p : ℕ) → query v s (lookPage f p) ≡ look v f p
+unfolding query queryTests
+look-asked v s f p = refl

@@ -14,7 +14,8 @@ use Rattle.volume.specs.Views.{View}
 use Rattle.volume.specs.Volumes.{Volume, view}
 use Rattle.volume.specs.Sound.{sound}
 use Rattle.volume.specs.Stores.{Store, cutAt, allStores}
-use Rattle.rules.specs.Plans.{Call, Query, readPage, entryFor, slotFor, plan, sessionAfter}
+use Rattle.rules.specs.Plans.{Call, Query, readPage, lookPage, entryFor, slotFor, plan, sessionAfter}
+use Rattle.rules.specs.Content.{decidedSlot}
 use Rattle.rules.specs.Refusals.{tests, queryTests}
 
 -- What a call answers and leaves.
@@ -46,9 +47,10 @@ call v s c budget = callBy (first (tests (sound v) (view v) s c)) v s c budget
 
 -- ------------------------------------------------------------------ questions
 -- The answer to a question that isn't refused. Read "answers the sector number": "the sector that (f, p) has in record k, else
--- by the map".
+-- by the map". M-103: a look "finds the page of the decided content", and "as with read, it answers the sector number".
 abbrev pub answerTo : View → Query → QueryAnswer
 answerTo a (readPage k f p) = found (sectorOf (a .table) (slotPlace f (slotFor a f p (entryFor a k f p))))
+answerTo a (lookPage f p) = found (sectorOf (a .table) (slotPlace f (decidedSlot a f p)))
 
 -- The number is the refusal's, or 0.
 abbrev pub queryBy : ℕ → View → Query → QueryAnswer
@@ -67,3 +69,11 @@ partOf v (queryRefused n) = []
 -- That second call, with the question's arguments.
 abbrev pub queryPart : Volume → Session → Query → Bytes
 queryPart v s q = partOf v (query v s q)
+
+-- M-103: "A look takes only the volume, a file and a page", so it is the same whatever session there is; "and a second call hands
+-- back that part".
+abbrev pub look : Volume → (file : ℕ) → (page : ℕ) → QueryAnswer
+look v f p = query v newSession (lookPage f p)
+
+abbrev pub lookPart : Volume → (file : ℕ) → (page : ℕ) → Bytes
+lookPart v f p = partOf v (look v f p)

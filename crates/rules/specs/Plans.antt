@@ -23,9 +23,11 @@ pub data Call : Type 0 where
   commit : (client : ℕ) → Call
   abort : (client : ℕ) → Call
 
--- The questions, which store nothing and hand back no session.
+-- The questions, which store nothing and hand back no session: a client's read, and M-103's look, which "takes only the volume, a
+-- file and a page".
 pub data Query : Type 0 where
   readPage : (client : ℕ) → (file : ℕ) → (page : ℕ) → Query
+  lookPage : (file : ℕ) → (page : ℕ) → Query
 
 -- ------------------------------------------------------------------ pages and slots
 -- The entry that record k has for (f, p).

@@ -12,7 +12,7 @@ use Rattle.sector.specs.Contents.{Bytes, File, Entry, Record, Header}
 use Rattle.volume.specs.Places.{isClient, isFile, fileAt}
 use Rattle.volume.specs.Views.{View}
 use Rattle.rules.specs.Sessions.{isActive, isReading, isReadByOther, holds, holdsEither, sessionFits}
-use Rattle.rules.specs.Plans.{Call, begin, openFile, openRead, write, commit, abort, Query, readPage, entryFor, freeSlots}
+use Rattle.rules.specs.Plans.{Call, begin, openFile, openRead, write, commit, abort, Query, readPage, lookPage, entryFor, freeSlots}
 
 -- "another marked kiln holds f", for writing.
 abbrev pub heldByOther : View → Session → ℕ → ℕ → Bool
@@ -118,6 +118,10 @@ writeTests a s k f p = heldTests a s k f ++ (readOnly a s k f ∷ pageMissing a 
 abbrev pub slotTests : (isNew : Bool) → View → ℕ → ℕ → Bytes → List Test
 slotTests isNew a k f d = badPageLength d ∷ noFreeSlot isNew a k f ∷ recordFull isNew a k ∷ []
 
+-- M-103: "a look tests 1, 6 and 9". It has no client and no session.
+abbrev pub lookTests : (ok : Bool) → View → (file : ℕ) → (page : ℕ) → List Test
+lookTests ok a f p = notSound ok ∷ fileMissing a f ∷ pageMissing a f p ∷ []
+
 -- A call's tests.
 unfoldable pub tests : (ok : Bool) → View → Session → Call → List Test
 tests ok a s (begin k) = clientTests ok a s k ++ (alreadyActive s k ∷ [])
@@ -130,3 +134,4 @@ tests ok a s (abort k) = activeTests ok a s k
 -- A question's.
 unfoldable pub queryTests : (ok : Bool) → View → Session → Query → List Test
 queryTests ok a s (readPage k f p) = activeTests ok a s k ++ readTests a s k f p
+queryTests ok a s (lookPage f p) = lookTests ok a f p

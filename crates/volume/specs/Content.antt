@@ -24,6 +24,10 @@ decidedMap a f =
     let k = a .headers f .holder in
     mapAfter (not (eqb k 0) && isDecided a k) a k f
 
--- The decided content of page p of file f: "its pages by the map" so changed.
+-- The slot of its page p: "by the map" so changed.
+abbrev pub decidedSlot : View → ℕ → ℕ → ℕ
+decidedSlot a f p = getD (decidedMap a f) p 0
+
+-- The decided content of that page.
 abbrev pub decidedContent : View → ℕ → ℕ → Bytes
-decidedContent a f p = a .slots f (getD (decidedMap a f) p 0)
+decidedContent a f p = a .slots f (decidedSlot a f p)
