@@ -4,18 +4,20 @@ use mathlib.Core.Bool.{true, false}
 use Prim.Native.Nat.{ℕ, _≤_}
 use native.Mathlib.Omega.{arith}
 use Rattle.interface.specs.declared.Session.{Session}
+use Rattle.interface.specs.Answers.{newSession}
 use Rattle.lists.specs.Lists.{first}
-use Rattle.volume.specs.Places.{IsClient, IsFile}
+use Rattle.volume.specs.Places.{IsClient, IsFile, IsPage}
 use Rattle.volume.specs.Lawful.{headerFits}
 use Rattle.volume.specs.Volumes.{Volume, view}
 use Rattle.volume.specs.Sound.{sound}
 use Rattle.volume.specs.WellFormed.{WellFormed}
 use Rattle.volume.proofs.ReadLaws.{few-clients, few-files}
-use Rattle.volume.proofs.SoundLaws.{Fine, fine-sound}
+use Rattle.volume.proofs.WellFormedLaws.{sound-formed}
+use Rattle.volume.proofs.SoundLaws.{Fine, fine-sound, sound-lawful}
 use Rattle.rules.specs.Sessions.{isActive, isReading}
-use Rattle.rules.specs.Plans.{Call, begin, openFile, openRead, commit, abort}
-use Rattle.rules.specs.Refusals.{heldByOther, tests}
-use Rattle.rules.proofs.AllowedLaws.{MayOpenRead}
+use Rattle.rules.specs.Plans.{Call, begin, openFile, openRead, commit, abort, lookPage}
+use Rattle.rules.specs.Refusals.{heldByOther, lookTests, tests, queryTests}
+use Rattle.rules.proofs.AllowedLaws.{MayOpenRead, passed-first, query-ordered, answerable}
 use Rattle.rules.proofs.CallLaws.{passed}
 use Rattle.transaction.proofs.TestedLaws.{begin-client, act-client, open-header}
 
@@ -89,3 +91,16 @@ opens v s k f e = let p = passed v s (openFile k f) (sym e) in may-open v s k f 
 
 pub opens-read : (v : Volume) (s : Session) (k f : ℕ) → 0 ≡ first (tests (sound v) (view v) s (openRead k f)) → Opens v s k f
 opens-read v s k f e = let p = passed v s (openRead k f) (sym e) in may-open v s k f (p .fine) (p .allowed)
+
+-- A page that a look finds.
+pub record Looks (v : Volume) (f p : ℕ) : Type 0 where
+  pub sound : sound v ≡ true
+  pub formed : WellFormed v
+  pub page : IsPage (view v .table) f p
+
+pub looks : (v : Volume) (f p : ℕ) → 0 ≡ first (lookTests (sound v) (view v) f p) → Looks v f p
+unfolding queryTests
+looks v f p e =
+    let w = answerable (sound v) (view v) newSession (sound-lawful v) (lookPage f p) (sym e) in
+    let ok : sound v ≡ true = passed-first (query-ordered (sound v) (view v) newSession (lookPage f p)) (sym e) in
+    record { sound = ok; formed = sound-formed v ok; page = record { file = w .file; below = w .page } }

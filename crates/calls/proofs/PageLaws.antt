@@ -7,8 +7,10 @@ use Rattle.interface.specs.declared.Session.{Session}
 use Rattle.interface.specs.Answers.{QueryAnswer, found, queryRefused}
 use Rattle.volume.specs.Volumes.{Volume, view}
 use Rattle.volume.proofs.ReadLaws.{few-sectors, slot-inside}
-use Rattle.rules.specs.Plans.{Query, readPage, entryFor, slotFor}
+use Rattle.rules.specs.Plans.{Query, readPage, lookPage, entryFor, slotFor}
+use Rattle.rules.specs.Content.{decidedSlot}
 use Rattle.rules.specs.Calls.{query}
+use Rattle.rules.proofs.ContentLaws.{decided-below}
 use Rattle.rules.proofs.AllowedLaws.{slot-below}
 use Rattle.rules.proofs.CallLaws.{query-case}
 
@@ -23,4 +25,9 @@ query-inside v s (readPage k f p) = query-case (Inside v) v s (readPage k f p) (
     let formed = h .formed in
     let below = slot-below w (entryFor (view v) k f p) refl in
     let inside = slot-inside v formed f (slotFor (view v) f p (entryFor (view v) k f p)) (w .file) below in
+    (inside, omega (arith, inside, formed .shaped .size, few-sectors v formed)))
+query-inside v s (lookPage f p) = query-case (Inside v) v s (lookPage f p) (λ n e. tt)
+    (λ h w e.
+    let formed = h .formed in
+    let inside = slot-inside v formed f (decidedSlot (view v) f p) (w .file) (decided-below (w .laws) f p (w .file) (w .page)) in
     (inside, omega (arith, inside, formed .shaped .size, few-sectors v formed)))

@@ -14,13 +14,13 @@ ghost use mathlib.Core.Bool.{true};
 ghost use Prim.Native.Nat.{_≤_};
 ghost use Rattle.interface.specs.Answers.{queryAnswerOf};
 ghost use Rattle.sector.specs.Contents.{Table};
-ghost use Rattle.volume.specs.Places.{IsClient, IsFile, IsPage, slotPlace, sectorOf};
+ghost use Rattle.volume.specs.Places.{IsFile, slotPlace, sectorOf};
 ghost use Rattle.volume.specs.Views.{View};
 ghost use Rattle.volume.specs.Volumes.{view};
 ghost use Rattle.volume.specs.Sound.{sound};
 ghost use Rattle.volume.specs.WellFormed.{WellFormed};
-ghost use Rattle.rules.specs.Plans.{openFile, openRead, readPage, entryFor, slotFor, sessionAfter};
-ghost use Rattle.rules.specs.Calls.{call, query, queryPart};
+ghost use Rattle.rules.specs.Plans.{openFile, openRead, readPage, sessionAfter};
+ghost use Rattle.rules.specs.Calls.{call, query, queryPart, lookPart};
 ghost use Rattle.calls.specs.Replies.{replied};
 
 // Starts a transaction of the client: recovers what an earlier one left, and opens its record. Ruled out: a session
@@ -86,18 +86,20 @@ pub fn read(volume: &[u8], session: Session, client: u8, file: u8, page: u8) -> 
 {
     match checks::check_read(volume, session, client, file, page) {
         Verdict::Refused(r) => QueryOutcome::Refused(r),
-        Verdict::Accepted => QueryOutcome::Sector(page_sector(volume, client, file, page)),
+        Verdict::Accepted => {
+            let slot = slots::read_slot(volume, client, file, page);
+            QueryOutcome::Sector(slot_sector(volume, file, slot))
+        }
     }
 }
 
-// The sector of the slot that has the page.
-fn page_sector(v: &[u8], k: u8, f: u8, p: u8) -> u16
-    requires { ⌜ WellFormed (now v) × IsClient (view (now v) .table) k × IsPage (view (now v) .table) f p ⌝ }
-    ensures { λ r. ⌜ r ≡ sectorOf (view (now (v .entry)) .table) (slotPlace f (slotFor (view (now (v .entry))) f p (entryFor (view (now (v .entry))) k f p))) ⌝ }
+// The sector of slot r of file f.
+fn slot_sector(v: &[u8], f: u8, r: u8) -> u16
+    requires { ⌜ WellFormed (now v) × IsFile (view (now v) .table) f ⌝ }
+    ensures { λ q. ⌜ q ≡ sectorOf (view (now (v .entry)) .table) (slotPlace f r) ⌝ }
 {
     let h = volume::header_sector(v, f);
-    let r = sector::wide(slots::read_slot(v, k, f, p));
-    (h + 1 + r) as u16
+    (h + 1 + sector::wide(r)) as u16
 }
 
 // The page itself: the part of the volume that `read` names, or an empty part where it refuses. Ruled out: another
@@ -107,6 +109,33 @@ pub fn page(volume: &[u8], session: Session, client: u8, file: u8, page: u8) -> 
     ensures { λ r. ⌜ now r ≡ queryPart (now (volume .entry)) session (readPage client file page) ⌝ }
 {
     match read(volume, session, client, file, page) {
+        QueryOutcome::Refused(_) => &volume[0..0],
+        QueryOutcome::Sector(n) => sector::part(volume, n as usize),
+    }
+}
+
+// The sector that has the page of the decided content, for anyone who looks. Ruled out: an answer by the map alone where the
+// holder's record is decided (`slots/must-fail/look_by_map_alone`), or by the entries where it is only open
+// (`slots/must-fail/look_into_an_open_record`); a refusal because a client holds the file
+// (`checks/must-fail/look_at_held_refused`).
+pub fn look(volume: &[u8], file: u8, page: u8) -> QueryOutcome
+    ensures { λ r. ⌜ queryAnswerOf r ≡ Rattle.rules.specs.Calls.look (now (volume .entry)) file page ⌝ }
+{
+    match checks::check_look(volume, file, page) {
+        Verdict::Refused(r) => QueryOutcome::Refused(r),
+        Verdict::Accepted => {
+            let slot = slots::decided_slot(volume, file, page);
+            QueryOutcome::Sector(slot_sector(volume, file, slot))
+        }
+    }
+}
+
+// The page itself: the part of the volume that `look` names, or an empty part where it refuses. Ruled out: another page's
+// part (`must-fail/look_page_of_another`); anything but an empty part on a refusal.
+pub fn look_page(volume: &[u8], file: u8, page: u8) -> &[u8]
+    ensures { λ r. ⌜ now r ≡ lookPart (now (volume .entry)) file page ⌝ }
+{
+    match look(volume, file, page) {
         QueryOutcome::Refused(_) => &volume[0..0],
         QueryOutcome::Sector(n) => sector::part(volume, n as usize),
     }

@@ -1,5 +1,6 @@
 // The tests of the calls: each answers the first refusal that applies, or that none does.
 mod call;
+mod look;
 mod open;
 mod page;
 mod write;
@@ -7,6 +8,7 @@ mod write;
 pub use call::check_active;
 pub use call::check_begin;
 use interface::Refusal;
+pub use look::check_look;
 pub use open::check_open;
 pub use open::check_open_read;
 pub use page::check_read;

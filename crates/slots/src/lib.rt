@@ -1,8 +1,9 @@
-// Where a page lies: the slot that the client's record has for it, else by the map; and the free slot that a new page takes.
+// Where a page lies, for a client that reads it and for a look; and the free slot that a new page takes.
 use byteset::add;
 use byteset::lowest_missing;
+use sector::State;
 ghost use mathlib.Core.Path.{_≡_};
-ghost use mathlib.Core.Bool.{_||_};
+ghost use mathlib.Core.Bool.{true, _||_};
 ghost use Prim.Native.Nat.{ℕ};
 ghost use lib.ListN.{length, getD, getElem?};
 ghost use Rattle.lists.specs.Lists.{any, member};
@@ -11,9 +12,11 @@ ghost use Rattle.sector.specs.Entries.{forPage, givesSlot};
 ghost use Rattle.volume.specs.Places.{IsClient, IsFile, IsPage};
 ghost use Rattle.volume.specs.Views.{View};
 ghost use Rattle.volume.specs.Volumes.{view};
+ghost use Rattle.volume.specs.Sound.{sound};
 ghost use Rattle.volume.specs.WellFormed.{WellFormed, HasEntry, noEntry};
 ghost use Rattle.byteset.specs.Set.{hasByte};
 ghost use Rattle.rules.specs.Plans.{entryFor, freeSlots, startFor, triedFrom, slotFor};
+ghost use Rattle.rules.specs.Content.{decidedSlot};
 ghost use Rattle.slots.specs.Slots.{slotOf, entrySlot};
 
 // What a search for a slot found.
@@ -120,4 +123,21 @@ pub fn read_slot(v: &[u8], k: u8, f: u8, p: u8) -> u8
         Found::Slot(r) => r,
         Found::Nothing => volume::mapped_slot(v, f, p),
     }
+}
+
+// The slot that a look at page p of file f takes: the one that its holder's record has for the page, if that is decided, else
+// by the map. Ruled out: the map alone (`must-fail/look_by_map_alone`); the entries of a record that is only open
+// (`must-fail/look_into_an_open_record`), or of one that the header doesn't name (`must-fail/look_into_another_record`).
+pub fn decided_slot(v: &[u8], f: u8, p: u8) -> u8
+    requires { ⌜ (sound (now v) ≡ true) × IsPage (view (now v) .table) f p ⌝ }
+    ensures { λ r. ⌜ r ≡ decidedSlot (view (now (v .entry))) f p ⌝ }
+{
+    let k = volume::holder(v, f);
+    if k == 0 {
+        return volume::mapped_slot(v, f, p);
+    }
+    if volume::state(v, k) != State::DECIDED {
+        return volume::mapped_slot(v, f, p);
+    }
+    read_slot(v, k, f, p)
 }

@@ -10,11 +10,19 @@ use Rattle.calls.proofs.AnswerLaws.{refused-query}
 use Rattle.calls.proofs.read.Statement.{statement}
 use Rattle.calls.proofs.read.Tie as tie
 
-page-sector-requires : tie.Need-page-sector-requires
-page-sector-requires c κs =
+read-slot-requires : tie.Need-read-slot-requires
+read-slot-requires c κs =
     let q = c .before .before in
     let s = q .before .before in
     read-formed (s .args .volume .now) (s .args .session) (s .args .client) (s .args .file) (s .args .page) (ap numberOf (sym (c .enum-told .given .1)) ∙ q .check-read .ensures)
+
+slot-sector-requires : tie.Need-slot-sector-requires
+slot-sector-requires c κs =
+    let x = c .before in
+    let q = x .before .before in
+    let s = q .before .before in
+    let w = read-formed (s .args .volume .now) (s .args .session) (s .args .client) (s .args .file) (s .args .page) (ap numberOf (sym (x .enum-told .given .1)) ∙ q .check-read .ensures) in
+    (w .0, w .2 .file)
 
 returns : tie.Need-returns
 returns c =
@@ -25,11 +33,12 @@ returns c =
 
 returns-2 : tie.Need-returns-2
 returns-2 c =
-    let x = c .before in
+    let f = c .before in
+    let x = f .before in
     let q = x .before .before in
     let s = q .before .before in
-    ap found (c .page-sector .ensures) ∙ sym (query-answered (s .args .volume .now) (s .args .session) (readPage (s .args .client) (s .args .file) (s .args .page)) (sym (ap numberOf (sym (x .enum-told .given .1)) ∙ q .check-read .ensures)))
+    ap found (rw (f .read-slot .ensures) at (c .slot-sector .ensures)) ∙ sym (query-answered (s .args .volume .now) (s .args .session) (readPage (s .args .client) (s .args .file) (s .args .page)) (sym (ap numberOf (sym (x .enum-told .given .1)) ∙ q .check-read .ensures)))
 
 pub read-spec : {M : Type 1} → statement M
-read-spec = tie.close (tie.spec (λ c κs. search needs) (λ c. search needs) (λ c. search needs) page-sector-requires
+read-spec = tie.close (tie.spec (λ c κs. search needs) (λ c. search needs) (λ c. search needs) read-slot-requires slot-sector-requires
     returns returns-2)
