@@ -1,5 +1,6 @@
 pub mod StatementExamples
 pub mod ReaderExamples
+pub mod LookExamples
 pub mod KeepLaws
 pub mod PlanLaws
 pub mod WriteLaws
@@ -13,6 +14,7 @@ pub mod HoldLaws
 pub mod StayLaws
 pub mod NonVacuity
 pub mod ReaderLaws
+pub mod LookLaws
 pub mod FreshLaws
 pub mod Progress
 pub mod SharingLaws

@@ -5,24 +5,26 @@
 use mathlib.Core.Path.{_≡_, refl}
 use mathlib.Core.Bool.{Bool, true, false}
 use mathlib.Core.List.{List, [], _∷_}
-use Prim.Native.Nat.{ℕ}
+use Prim.Native.Nat.{ℕ, _≤_}
 use native.Mathlib.Omega.{arith}
 use lib.ListN.{length}
 use Rattle.interface.specs.declared.Session.{Session}
-use Rattle.interface.specs.Answers.{newSession, QueryAnswer}
+use Rattle.interface.specs.Answers.{newSession, QueryAnswer, formatDone}
+use Rattle.sector.specs.Contents.{Bytes}
 use Rattle.volume.specs.Volumes.{Volume, view}
 use Rattle.volume.specs.Sound.{sound}
+use Rattle.volume.specs.Stores.{cutAt}
 use Rattle.volume.specs.Format.{tableFor, format}
 use Rattle.volume.proofs.SoundLaws.{Fine, fine, fine-sound}
 use Rattle.volume.proofs.FormatLaws.{new-fine, FormatFacts, format-done}
 use Rattle.rules.specs.Sessions.{sessionFits}
 use Rattle.rules.specs.Plans.{Call, Query, readPage, lookPage, sessionAfter}
-use Rattle.rules.specs.Calls.{After, call, query}
+use Rattle.rules.specs.Calls.{After, callStores, call, query}
 use Rattle.rules.proofs.SessionLaws.{new-fits}
-use Rattle.rules.proofs.CallLaws.{call-case, call-left, query-case}
+use Rattle.rules.proofs.CallLaws.{Passed, call-case, call-left, query-case}
 use Rattle.rules.proofs.AllowedLaws.{Later, running-fits}
-use Rattle.atomicity.specs.Runs.{Step, calls, asks, Configuration, started, given, stepped}
-use Rattle.atomicity.specs.NonVacuity.{StaysSound, refusalOf, queryRefusalOf, Accepted, AlwaysAccepted}
+use Rattle.atomicity.specs.Runs.{Step, calls, asks, Configuration, started, given, stepped, ranOver}
+use Rattle.atomicity.specs.NonVacuity.{StaysSound, refusalOf, queryRefusalOf, stepRefusal, Accepted, AlwaysAccepted}
 use Rattle.atomicity.proofs.StepLaws.{left-all, left-fine}
 use Rattle.atomicity.proofs.Theorem.{startedAs}
 use Rattle.atomicity.proofs.ReturnLaws.{returned-runs, returned-marks, returned-words}
@@ -46,18 +48,21 @@ pub given-steady : {v : Volume} {s : Session} (crash : Bool) → Steady v s → 
 given-steady true h = new-steady (h .volume)
 given-steady false h = h
 
+-- What a call that is done leaves.
+pub done-steady : {v : Volume} {s : Session} {c : Call} → Passed v s c → length (s .active) ≡ 4 → length (s .reading) ≡ 4
+    → (budget : ℕ) → length (callStores v s c) ≤ budget → Steady (cutAt v (callStores v s c) budget) (sessionAfter (view v) s c)
+done-steady {v} {s} {c} ok marks words budget le = record {
+  volume = left-fine v s c ok budget;
+  session = rw (left-all v s c ok budget le)
+      (running-fits _ (sessionAfter (view v) s c) (returned-runs (view v) s marks c (ok .allowed)) (returned-reads (view v) s marks words c (ok .allowed)));
+  marks = returned-marks (view v) s marks c;
+  words = returned-words (view v) s words c;
+}
+
 module _ {v : Volume} {s : Session} (h : Steady v s) where
   pub call-steady : (c : Call) (budget : ℕ) → let x = call v s c budget in Steady (x .volume) (x .session)
   call-steady c budget = call-case (λ (x : After). Steady (x .volume) (x .session)) v s c budget (λ n e. h)
-      (λ ok le. record {
-        volume = left-fine v s c ok budget;
-        session = rw (left-all v s c ok budget le)
-            (running-fits _ (sessionAfter (view v) s c) (returned-runs (view v) s (h .marks) c (ok .allowed))
-            (returned-reads (view v) s (h .marks) (h .words) c (ok .allowed)));
-        marks = returned-marks (view v) s (h .marks) c;
-        words = returned-words (view v) s (h .words) c;
-      })
-      (λ ok lt. new-steady (left-fine v s c ok budget))
+      (λ ok le. done-steady ok (h .marks) (h .words) budget le) (λ ok lt. new-steady (left-fine v s c ok budget))
 
   -- Neither refusal 1 nor refusal 2.
   call-later : (c : Call) (budget : ℕ) → Later (refusalOf (call v s c budget .answer))
@@ -71,24 +76,36 @@ module _ {v : Volume} {s : Session} (h : Steady v s) where
       (λ n later. later (h .volume) (h .session)) (λ fine w e. (omega arith, omega arith))
 
 -- ------------------------------------------------------------------ every list of steps
+module _ (r : Configuration) (h : Steady (r .volume) (r .session)) where
+  step-later : (x : Step) → Later (stepRefusal r x)
+  step-later (calls crash c budget) = call-later (given-steady crash h) c budget
+  step-later (asks crash q) = query-later (given-steady crash h) q
+
+  pub step-steady : (x : Step) → Steady (stepped r x .volume) (stepped r x .session)
+  unfolding stepped
+  step-steady (calls crash c budget) = call-steady (given-steady crash h) c budget
+  step-steady (asks crash q) = h
+
+pub ran-steady : (r : Configuration) → Steady (r .volume) (r .session) → (steps : List Step)
+    → Steady (ranOver r steps .volume) (ranOver r steps .session)
+ran-steady r h [] = h
+ran-steady r h (x ∷ xs) = ran-steady (stepped r x) (step-steady r h x) xs
+
 pub accepted : (r : Configuration) (steps : List Step) → Steady (r .volume) (r .session) → Accepted r steps
-unfolding stepped
 accepted r [] h = tt
-accepted r (calls crash c budget ∷ xs) h =
-    let g : Steady (r .volume) (given crash (r .session)) = given-steady crash h in
-    let x = call-later g c budget in
-    (x .0, x .1, accepted (stepped r (calls crash c budget)) xs (call-steady g c budget))
-accepted r (asks crash q ∷ xs) h =
-    let g : Steady (r .volume) (given crash (r .session)) = given-steady crash h in
-    let x = query-later g q in
-    (x .0, x .1, accepted r xs h)
+accepted r (x ∷ xs) h =
+    let later = step-later r h x in
+    (later .0, later .1, accepted (stepped r x) xs (step-steady r h x))
 
 -- From any sound volume with the content that it has.
 pub accepted-from : (v : Volume) (steps : List Step) → sound v ≡ true → Accepted (startedAs v) steps
 accepted-from v steps ok = accepted (startedAs v) steps (new-steady (fine v ok))
 
 -- From a formatted volume.
-pub always-accepted : AlwaysAccepted
-always-accepted v T l d steps =
+pub format-steady : (v : Volume) (T : ℕ) (l : Bytes) → format v T l .answer ≡ formatDone → Steady (format v T l .volume) newSession
+format-steady v T l d =
     let x : FormatFacts (tableFor (length v) T l) (format v T l .volume) = format-done v T l d in
-    accepted (started (format v T l .volume)) steps (rw (x .volume) (new-steady (new-fine (tableFor (length v) T l) (x .facts))))
+    rw (x .volume) (new-steady (new-fine (tableFor (length v) T l) (x .facts)))
+
+pub always-accepted : AlwaysAccepted
+always-accepted v T l d steps = accepted (started (format v T l .volume)) steps (format-steady v T l d)

@@ -26,7 +26,6 @@ use Rattle.volume.specs.Sound.{sound}
 use Rattle.volume.specs.Format.{tableFor, format}
 use Rattle.volume.proofs.PlaceLaws.{is-client, is-file}
 use Rattle.volume.proofs.SoundLaws.{fine, fine-sound, sound-lawful}
-use Rattle.volume.proofs.FormatLaws.{new-fine, FormatFacts, format-done}
 use Rattle.rules.specs.Sessions.{isReading, noneActive}
 use Rattle.rules.specs.Plans.{Call, begin, openFile, openRead, write, commit, abort, readPage}
 use Rattle.rules.specs.Refusals.{queryTests}
@@ -39,10 +38,10 @@ use Rattle.atomicity.specs.Runs.{Step, calls, asks, Configuration, start
 use Rattle.atomicity.specs.Readers.{Finds, Unchanged, StepSteady, HoldsStay, Steadily, ReadersSteady, ReadsThrough, SteadyWhile}
 use Rattle.atomicity.proofs.KeepLaws.{pendingIn}
 use Rattle.atomicity.proofs.RelationLaws.{Matches, faithful}
-use Rattle.atomicity.proofs.StepLaws.{call-matches, call-table, read-pending, query-matches}
+use Rattle.atomicity.proofs.StepLaws.{read-pending, query-matches}
 use Rattle.atomicity.proofs.StayLaws.{holds-stay}
-use Rattle.atomicity.proofs.NonVacuity.{Steady, new-steady, given-steady, call-steady}
-use Rattle.atomicity.proofs.Theorem.{Related, given-matches, new-related, startedAs, started-related}
+use Rattle.atomicity.proofs.NonVacuity.{Steady, new-steady, given-steady, step-steady, format-steady}
+use Rattle.atomicity.proofs.Theorem.{Related, given-matches, step-related, startedAs, started-related, format-related}
 
 -- ------------------------------------------------------------------ a file that is read
 module _ {a : View} {s : Session} {k f : ℕ} (ok : Ready a s) (x : Reader s k f) where
@@ -188,13 +187,10 @@ steadily t r (calls crash c budget ∷ xs) h ok =
     s = given crash (r .session)
 
     next : Related t (stepped r (calls crash c budget))
-    next = record {
-      table = call-table (r .volume) s c budget ∙ h .table;
-      matches = call-matches (r .volume) s (r .model) (matches h ok crash) c budget;
-    }
+    next = step-related h (calls crash c budget)
 
     fit : Steady (stepped r (calls crash c budget) .volume) (stepped r (calls crash c budget) .session)
-    fit = call-steady (steady h ok crash) c budget
+    fit = step-steady r ok (calls crash c budget)
 
     same : StepSteady t r (calls crash c budget)
     same k f p client page on =
@@ -216,9 +212,7 @@ steadily-from v steps ok = steadily (view v .table) (startedAs v) steps (started
 -- From a formatted volume.
 pub readers-steady : ReadersSteady
 readers-steady v T l d steps =
-    let t : Table = tableFor (length v) T l in
-    let x : FormatFacts t (format v T l .volume) = format-done v T l d in
-    steadily t (started (format v T l .volume)) steps (rw (x .volume) (new-related t (x .facts))) (rw (x .volume) (new-steady (new-fine t (x .facts))))
+    steadily (tableFor (length v) T l) (started (format v T l .volume)) steps (format-related v T l d) (format-steady v T l d)
 
 -- ------------------------------------------------------------------ over several steps
 through : (t : Table) (r : Configuration) (steps : List Step) → Steadily t r steps → (k f p : ℕ) → IsClient t k → IsPage t f p

@@ -9,8 +9,8 @@ use Prim.Native.Nat.{ℕ, _+_, _<_}
 use native.Mathlib.Omega.{arith}
 use lib.ListN.{length, getD, replicate}
 use Rattle.interface.specs.declared.Session.{Session}
-use Rattle.interface.specs.Answers.{newSession}
-use Rattle.sector.specs.Contents.{Table, Header, newHeader}
+use Rattle.interface.specs.Answers.{newSession, formatDone}
+use Rattle.sector.specs.Contents.{Bytes, Table, Header, newHeader}
 use Rattle.lists.proofs.SearchLaws.{from-at}
 use Rattle.volume.specs.Places.{fileAt}
 use Rattle.volume.specs.Views.{View}
@@ -22,8 +22,8 @@ use Rattle.volume.proofs.FormatLaws.{new-table, new-header, new-slot, FormatFac
 use Rattle.rules.specs.Content.{decidedContent}
 use Rattle.rules.proofs.ContentLaws.{unheld-map}
 use Rattle.atomicity.specs.Model.{noPending, Model, newModel}
-use Rattle.atomicity.specs.Runs.{Step, calls, asks, Configuration, started, given, stepped}
-use Rattle.atomicity.specs.AllOrNone.{ContentAgrees, Agrees, AllOrNone}
+use Rattle.atomicity.specs.Runs.{Step, calls, asks, Configuration, started, given, stepped, ranOver}
+use Rattle.atomicity.specs.AllOrNone.{ContentAgrees, StepAgrees, Agrees, AllOrNone}
 use Rattle.atomicity.proofs.RelationLaws.{Matches, new-matches}
 use Rattle.atomicity.proofs.StepLaws.{call-matches, call-table, query-matches}
 
@@ -40,21 +40,27 @@ given-matches a s m false h = h
 content-agrees : (t : Table) (r : Configuration) → Related t r → ContentAgrees t r
 content-agrees t r h f p lo hi lt = h .matches .pages f p (rw (h .table) (record { low = lo; high = hi })) (rw (h .table) lt)
 
+module _ {t : Table} {r : Configuration} (h : Related t r) where
+  step-agrees : (x : Step) → StepAgrees r x
+  step-agrees (calls crash c budget) = tt
+  step-agrees (asks crash q) = query-matches (r .volume) (given crash (r .session)) (r .model) (given-matches _ _ _ crash (h .matches)) q
+
+  pub step-related : (x : Step) → Related t (stepped r x)
+  unfolding stepped
+  step-related (calls crash c budget) = record {
+    table = call-table (r .volume) (given crash (r .session)) c budget ∙ h .table;
+    matches = call-matches (r .volume) (given crash (r .session)) (r .model) (given-matches _ _ _ crash (h .matches)) c budget;
+  }
+  step-related (asks crash q) = h
+
+pub ran-related : {t : Table} {r : Configuration} → Related t r → (steps : List Step) → Related t (ranOver r steps)
+ran-related h [] = h
+ran-related h (x ∷ xs) = ran-related (step-related h x) xs
+
 -- From any start that is related.
 pub agrees : (t : Table) (r : Configuration) (steps : List Step) → Related t r → Agrees t r steps
-unfolding stepped
 agrees t r [] h = content-agrees t r h
-agrees t r (calls crash c budget ∷ xs) h =
-    let s = given crash (r .session) in
-    let g : Matches (view (r .volume)) (given crash (r .session)) (r .model) = given-matches _ _ _ crash (h .matches) in
-    let next : Related t (stepped r (calls crash c budget)) = record {
-      table = call-table (r .volume) s c budget ∙ h .table;
-      matches = call-matches (r .volume) s (r .model) g c budget;
-    } in
-    (content-agrees t r h, tt, agrees t (stepped r (calls crash c budget)) xs next)
-agrees t r (asks crash q ∷ xs) h =
-    let g : Matches (view (r .volume)) (given crash (r .session)) (r .model) = given-matches _ _ _ crash (h .matches) in
-    (content-agrees t r h, query-matches (r .volume) (given crash (r .session)) (r .model) g q, agrees t r xs h)
+agrees t r (x ∷ xs) h = (content-agrees t r h, step-agrees h x, agrees t (stepped r x) xs (step-related h x))
 
 -- A volume with the decided content that it has, and a new session.
 abbrev pub startedAs : Volume → Configuration
@@ -81,14 +87,18 @@ new-content t facts f p i lt =
     ∙ ap (λ (h : Header). a .slots f (getD (h .map) p 0)) header
     ∙ rw (from-at (fileAt t f .pages) 0 p lt) (new-slot t facts f (0 + p) i (omega (arith, file-facts facts f i .room)))
 
-pub new-related : (t : Table) → TableFacts t → Related t (started (newVolume t))
+new-related : (t : Table) → TableFacts t → Related t (started (newVolume t))
 new-related t facts = record {
   table = new-table t facts;
   matches = new-matches (view (newVolume t)) newModel
       (λ f p i lt. new-content t facts f p (rw (new-table t facts) at i) (rw (new-table t facts) at lt));
 }
 
-pub all-or-none : AllOrNone
-all-or-none v T l d steps =
+pub format-related : (v : Volume) (T : ℕ) (l : Bytes) → format v T l .answer ≡ formatDone
+    → Related (tableFor (length v) T l) (started (format v T l .volume))
+format-related v T l d =
     let x : FormatFacts (tableFor (length v) T l) (format v T l .volume) = format-done v T l d in
-    agrees (tableFor (length v) T l) (started (format v T l .volume)) steps (rw (x .volume) (new-related (tableFor (length v) T l) (x .facts)))
+    rw (x .volume) (new-related (tableFor (length v) T l) (x .facts))
+
+pub all-or-none : AllOrNone
+all-or-none v T l d steps = agrees (tableFor (length v) T l) (started (format v T l .volume)) steps (format-related v T l d)
