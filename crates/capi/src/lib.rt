@@ -16,7 +16,8 @@ ghost use Rattle.volume.specs.Sound.{sound};
 ghost use Rattle.volume.specs.Format.{Formatted};
 ghost use Rattle.rules.specs.Plans.{openFile, openRead, readPage};
 ghost use Rattle.listing.specs.Listed.{listed};
-ghost use Rattle.capi.specs.Passing.{passedFormat, truth, calledBy, askedBy, listedLength};
+ghost use Rattle.rules.specs.Calls.{look};
+ghost use Rattle.capi.specs.Passing.{passedQuery, passedFormat, truth, calledBy, askedBy, listedLength};
 
 // A session: bit k - 1 of `active` is client k's mark, bit f - 1 of `reading[k - 1]` its reading hold of file f.
 #[repr(C)]
@@ -126,6 +127,15 @@ pub extern "C" fn vol_read(
         return refuse_bits(volume);
     }
     pass_query(calls::read(volume, session_from(session), client, file, page))
+}
+
+// The sector that has the page of the decided content, without a session. Ruled out: file and page exchanged
+// (`must-fail/look_at_page_of_file`); a sector told as a refusal (`must-fail/sector_as_refusal`).
+#[no_mangle]
+pub extern "C" fn vol_look(volume: &[u8], file: u8, page: u8) -> VolAnswer
+    ensures { λ r. ⌜ r ≡ passedQuery (look (now (volume .entry)) file page) ⌝ }
+{
+    pass_query(calls::look(volume, file, page))
 }
 
 // Writes the bytes as the page, in the client's transaction.
