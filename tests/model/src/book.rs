@@ -29,7 +29,7 @@ impl Book {
 
     /// Takes note of one call, the session it was given and its answer.
     pub fn feed(&mut self, session: Session, call: &Call, answer: Answer) {
-        if let Call::Read { .. } = call {
+        if let Call::Read { .. } | Call::Look { .. } = call {
             return;
         }
         if session.has_no_mark() {
@@ -56,8 +56,13 @@ impl Book {
     /// the book's.
     pub fn shows(&self, client: u8, file: u8, page: u8) -> Option<&[u8]> {
         let slip = self.slips.get(usize::from(client).checked_sub(1)?)?;
-        let booked = || self.files.get(usize::from(file).checked_sub(1)?)?.get(usize::from(page));
-        slip.get(&(file, page)).or_else(booked).map(|bytes| bytes.as_slice())
+        slip.get(&(file, page)).map(|bytes| bytes.as_slice()).or_else(|| self.shows_anyone(file, page))
+    }
+
+    /// The page that a look shows: the book's, whatever is on the slips.
+    pub fn shows_anyone(&self, file: u8, page: u8) -> Option<&[u8]> {
+        let pages = self.files.get(usize::from(file).checked_sub(1)?)?;
+        pages.get(usize::from(page)).map(|bytes| bytes.as_slice())
     }
 
     /// Whether a page of the file is on the client's slip.

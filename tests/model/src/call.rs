@@ -12,6 +12,7 @@ pub enum Call<'a> {
     Open { client: u8, file: u8, budget: u8 },
     OpenRead { client: u8, file: u8, budget: u8 },
     Read { client: u8, file: u8, page: u8 },
+    Look { file: u8, page: u8 },
     Write { client: u8, file: u8, page: u8, data: &'a [u8], budget: u8 },
     Commit { client: u8, budget: u8 },
     Abort { client: u8, budget: u8 },
@@ -57,7 +58,8 @@ impl fmt::Display for Answer {
 }
 
 impl Call<'_> {
-    /// Makes the call. A read hands back the session given.
+    /// Makes the call. A read and a look hand back the session given, which a
+    /// look doesn't see.
     pub fn make(&self, volume: &mut [u8], session: Session) -> (Session, Answer) {
         let (after, outcome) = match *self {
             Call::Begin { client, budget } => volume::begin(volume, session, client, budget),
@@ -66,6 +68,7 @@ impl Call<'_> {
             Call::Read { client, file, page } => {
                 return (session, volume::read(volume, session, client, file, page).into());
             }
+            Call::Look { file, page } => return (session, volume::look(volume, file, page).into()),
             Call::Write { client, file, page, data, budget } => {
                 volume::write(volume, session, client, file, page, data, budget)
             }
@@ -75,7 +78,7 @@ impl Call<'_> {
         (after, outcome.into())
     }
 
-    /// The budget; a read has none.
+    /// The budget; a read and a look have none.
     pub fn budget(&self) -> Option<u8> {
         match *self {
             Call::Begin { budget, .. }
@@ -84,11 +87,11 @@ impl Call<'_> {
             | Call::Write { budget, .. }
             | Call::Commit { budget, .. }
             | Call::Abort { budget, .. } => Some(budget),
-            Call::Read { .. } => None,
+            Call::Read { .. } | Call::Look { .. } => None,
         }
     }
 
-    /// The same call with another budget; a read stays as it is.
+    /// The same call with another budget; a read and a look stay as they are.
     pub fn with_budget(mut self, new: u8) -> Self {
         match &mut self {
             Call::Begin { budget, .. }
@@ -97,7 +100,7 @@ impl Call<'_> {
             | Call::Write { budget, .. }
             | Call::Commit { budget, .. }
             | Call::Abort { budget, .. } => *budget = new,
-            Call::Read { .. } => {}
+            Call::Read { .. } | Call::Look { .. } => {}
         }
         self
     }

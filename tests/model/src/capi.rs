@@ -36,6 +36,7 @@ extern "C" {
         budget: u8,
     ) -> LibraryReply;
     pub fn vol_read(volume: *const u8, len: usize, session: RawSession, client: u8, file: u8, page: u8) -> RawAnswer;
+    pub fn vol_look(volume: *const u8, len: usize, file: u8, page: u8) -> RawAnswer;
     pub fn vol_write(
         volume: *mut u8,
         len: usize,

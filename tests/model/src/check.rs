@@ -3,19 +3,22 @@
 //! A [`World`] plays the lines of a script on both engines. After every call
 //! it compares answers, sessions and every byte of the two volumes, tests the
 //! rules that each call keeps whatever its arguments and asks what readers are
-//! shown. From a layout on, without damage or foreign sessions, it sets the
-//! decided content and each read against the book.
+//! shown. Looks must find the decided pages, and a client that opens a file
+//! what a look found before. From a layout on, without damage or foreign
+//! sessions, it sets the decided content, each read and each look against the
+//! book.
 
 use crate::book::Book;
 use crate::call::{Answer, Call};
 use crate::content;
 use crate::engine::Engine;
 use crate::expected;
+use crate::looks;
 use crate::posix::{Lender, Placement, Shared};
 use crate::readers;
 use crate::reply::{RawSession, Reply};
 use crate::script::{Line, MAX_DATA, MAX_VOLUME};
-use crate::volume::{self, Session, MAX_FILES, MAX_LISTING, SECTOR_SIZE};
+use crate::volume::{self, refusal, Session, MAX_FILES, MAX_LISTING, SECTOR_SIZE};
 
 /// What the driver counts, as places in the shared tallies.
 pub mod tally {
@@ -45,6 +48,14 @@ pub mod tally {
     /// after which several read one file.
     pub const READERS_SHOWN: usize = 35;
     pub const SEVERAL_READERS: usize = 36;
+    /// Looks, those at a page that the holder's record has, decided or open,
+    /// and those against the book.
+    pub const LOOKS: usize = 37;
+    pub const LOOKS_AT_DECIDED: usize = 38;
+    pub const LOOKS_AT_OPEN: usize = 39;
+    pub const LOOKS_AGAINST_BOOK: usize = 40;
+    /// Files opened by clients that didn't hold them.
+    pub const OPENED_AS_LOOKED: usize = 41;
 }
 
 /// Up to this length every shorter budget of a call is tried as well.
@@ -146,11 +157,10 @@ impl World {
 
     /// Plays one line and answers what the call or layout answered.
     pub fn play(&mut self, line: &Line) -> Result<Option<Answer>, String> {
-        if self.tracing {
-            self.shared.add_text(&format!("{line}\n"));
-        }
+        self.trace(line);
         match line {
             Line::Format { length, clients, shape } => return self.format(*length, *clients, shape).map(Some),
+            Line::Call(Call::Look { file, page }) => return self.look(*file, *page).map(Some),
             Line::Call(call) => return self.call(call).map(Some),
             Line::Session(marks) => self.session = RawSession::of_marks(*marks),
             Line::Reading { client, file } => self.session.add_hold(*client, *file),
@@ -159,6 +169,23 @@ impl World {
             Line::List => self.list()?,
         }
         Ok(None)
+    }
+
+    /// Looks at pages (file, page) with no store between them, one line each.
+    pub fn look_around(&mut self, pages: &[(u8, u8)]) -> Check {
+        let sound = volume::is_sound(self.volume());
+        for &(file, page) in pages {
+            self.trace(&Line::Call(Call::Look { file, page }));
+            self.find(file, page, sound)?;
+        }
+        // The model is lent its volume for reading only.
+        self.same_bytes()
+    }
+
+    fn trace(&self, line: &Line) {
+        if self.tracing {
+            self.shared.add_text(&format!("{line}\n"));
+        }
     }
 
     // ------------------------------------------------------------ the lines
@@ -240,6 +267,16 @@ impl World {
         self.handed = session;
         self.against_book(given, call, answer)?;
         self.readers_kept(given, call, answer)?;
+        self.opened_as_looked(given, call, answer)?;
+        Ok(answer)
+    }
+
+    /// A look takes no session, so sessions and book stay as they are.
+    fn look(&mut self, file: u8, page: u8) -> Result<Answer, String> {
+        self.keep_before();
+        let answer = self.find(file, page, volume::is_sound(&self.before))?;
+        self.same_bytes()?;
+        self.unchanged()?;
         Ok(answer)
     }
 
@@ -345,7 +382,7 @@ impl World {
     }
 
     fn empty_page(&self, given: RawSession, call: &Call) -> Check {
-        expect(self.page(given, call).is_empty(), || "a refused read hands back a page".into())
+        expect(self.page(given, call).is_empty(), || "a refusal hands back a page".into())
     }
 
     fn page(&self, given: RawSession, call: &Call) -> &[u8] {
@@ -353,7 +390,74 @@ impl World {
             (Call::Read { client, file, page }, Some(session)) => {
                 volume::page(self.volume(), session, client, file, page)
             }
+            (Call::Look { file, page }, _) => volume::look_page(self.volume(), file, page),
             _ => &[],
+        }
+    }
+
+    // --------------------------------------------------------- the looks
+
+    /// Both engines find the page of the decided content, and the book's if
+    /// there is one. All looks between two stores are set against the same
+    /// book, so they are of one moment.
+    fn find(&mut self, file: u8, page: u8, sound: bool) -> Result<Answer, String> {
+        self.shared.count(tally::LOOKS);
+        let (given, look) = (self.session, Call::Look { file, page });
+        let answers = self.replies(given, &look).map(|reply| reply.answer);
+        expect(answers[0] == answers[1], || format!("the looks answer {answers:?}"))?;
+        let answer = answers[0].answer().ok_or("the answer of the look is none")?;
+        let expected = match sound {
+            true => expected::look(self.volume(), file, page),
+            false => Answer::Refused(refusal::NOT_SOUND),
+        };
+        expect(answer == expected, || format!("the look answers {answer} in place of {expected}"))?;
+        match answer {
+            Answer::Sector(sector) => {
+                self.count_look(file, page);
+                self.page_is_sector(given, &look, sector)?;
+            }
+            _ => self.empty_page(given, &look)?,
+        }
+        self.look_as_booked(file, page, answer)?;
+        Ok(answer)
+    }
+
+    fn look_as_booked(&self, file: u8, page: u8, answer: Answer) -> Check {
+        let Some(book) = &self.book else {
+            return Ok(());
+        };
+        self.shared.count(tally::LOOKS_AGAINST_BOOK);
+        let found = match answer {
+            Answer::Sector(sector) => Some(sector_of(self.volume(), sector)),
+            _ => None,
+        };
+        expect(found == book.shows_anyone(file, page), || "the look isn't what the book shows".into())
+    }
+
+    /// A client that opens a file, and held it neither way, reads what a look
+    /// before it finds.
+    fn opened_as_looked(&mut self, given: RawSession, call: &Call, answer: Answer) -> Check {
+        let (Call::Open { client, file, .. } | Call::OpenRead { client, file, .. }, Answer::Done(_)) = (*call, answer)
+        else {
+            return Ok(());
+        };
+        if content::holder(&self.before, file) == client || given.reads(client, file) {
+            return Ok(());
+        }
+        self.shared.count(tally::OPENED_AS_LOOKED);
+        for (engine, volume) in self.engines.into_iter().zip(&mut self.volumes) {
+            let opened = (volume.array(self.length), self.session);
+            looks::as_opened(engine, &mut self.before, opened, client, file)?;
+        }
+        Ok(())
+    }
+
+    fn count_look(&self, file: u8, page: u8) {
+        let volume = self.volume();
+        let holder = content::holder(volume, file);
+        if holder != 0 && content::has_entry(volume, holder, file, page) {
+            let is_decided = content::is_decided(volume, holder);
+            self.shared.count(if is_decided { tally::LOOKS_AT_DECIDED } else { tally::LOOKS_AT_OPEN });
         }
     }
 

@@ -19,7 +19,7 @@ pub fn decided_sectors(volume: &[u8], file: u8) -> Vec<usize> {
     let pages = usize::from(volume[4 + 4 * usize::from(file) + 2]);
     let mut map = sector(volume, header_at)[8..8 + pages].to_vec();
     let holder = holder(volume, file);
-    if holder != 0 && sector(volume, holder.into())[2] == 2 {
+    if holder != 0 && is_decided(volume, holder) {
         for entry in entries(volume, holder).filter(|entry| entry[0] == file) {
             map[usize::from(entry[1])] = entry[2];
         }
@@ -27,9 +27,19 @@ pub fn decided_sectors(volume: &[u8], file: u8) -> Vec<usize> {
     map.into_iter().map(|real| header_at + 1 + usize::from(real)).collect()
 }
 
+/// How many pages the file has; none if there is no such file.
+pub fn pages_of(volume: &[u8], file: u8) -> Option<u8> {
+    (1..=volume[5]).contains(&file).then(|| volume[4 + 4 * usize::from(file) + 2])
+}
+
 /// The client that the header of the file names, or 0.
 pub fn holder(volume: &[u8], file: u8) -> u8 {
     sector(volume, header_at(volume, file))[2]
+}
+
+/// Whether the client's record is decided.
+pub fn is_decided(volume: &[u8], client: u8) -> bool {
+    sector(volume, client.into())[2] == 2
 }
 
 /// How many stores recover the client: the headers that name it and its

@@ -39,7 +39,7 @@ impl Engine {
         }
     }
 
-    /// Makes a call with any session.
+    /// Makes a call with any session; a look sees none.
     pub fn call(self, volume: &mut [u8], session: RawSession, call: &Call) -> Reply {
         match self {
             Engine::Model => model_call(volume, session, call),
@@ -71,13 +71,14 @@ impl Engine {
 }
 
 fn model_call(volume: &mut [u8], given: RawSession, call: &Call) -> Reply {
-    let (session, answer) = match given.session() {
-        Some(session) => {
+    let (session, answer) = match (call, given.session()) {
+        (Call::Look { file, page }, _) => (given, volume::look(volume, *file, *page).into()),
+        (_, Some(session)) => {
             let (after, answer) = call.make(volume, session);
             (after.into(), answer)
         }
-        None if volume::is_sound(volume) => (given, Answer::Refused(refusal::SESSION)),
-        None => (given, Answer::Refused(refusal::NOT_SOUND)),
+        _ if volume::is_sound(volume) => (given, Answer::Refused(refusal::SESSION)),
+        _ => (given, Answer::Refused(refusal::NOT_SOUND)),
     };
     Reply { session, answer: answer.into() }
 }
@@ -94,6 +95,7 @@ fn library_call(volume: &mut [u8], session: RawSession, call: &Call) -> Reply {
             Call::Read { client, file, page } => {
                 return Reply { session, answer: capi::vol_read(at, len, session, client, file, page) };
             }
+            Call::Look { file, page } => return Reply { session, answer: capi::vol_look(at, len, file, page) },
             Call::Write { client, file, page, data, budget } => {
                 capi::vol_write(at, len, session, client, file, page, data.as_ptr(), data.len(), budget)
             }

@@ -10,6 +10,7 @@ use crate::random::Random;
 use crate::script::{data, Line, MAX_DATA, MAX_VOLUME};
 use crate::volume::{self, MAX_CLIENTS, MAX_FILES, MAX_PAGES, MAX_REALS, MAX_SECTORS, SECTOR_SIZE};
 
+mod looks;
 mod readers;
 mod sessions;
 
@@ -334,11 +335,16 @@ impl Run<'_> {
         if self.random.chance(6) {
             self.sweep(call)?;
         }
+        if self.random.chance(4) {
+            self.open_for_a_look()?;
+        }
         self.call(call)
     }
 
+    /// Makes the call and looks around after it.
     fn call(&mut self, call: Call<'static>) -> Check {
-        self.world.play(&Line::Call(call)).map(drop)
+        let answer = self.world.play(&Line::Call(call))?;
+        self.look_around(answer)
     }
 
     /// Cuts the call at every store and goes on a little from each cut; then
@@ -351,6 +357,9 @@ impl Run<'_> {
             for budget in 0..=count {
                 self.world.restore(&start);
                 self.call(call.with_budget(budget))?;
+                if self.random.chance(20) {
+                    self.open_for_a_look()?;
+                }
                 for _ in 0..self.random.below(8) {
                     let next = self.any_call();
                     self.call(next)?;
@@ -386,6 +395,10 @@ impl Run<'_> {
     }
 
     fn useful_call(&mut self) -> Call<'static> {
+        if self.random.chance(3) {
+            let (file, page) = self.page_to_look_at();
+            return Call::Look { file, page };
+        }
         let session = self.world.session();
         let clients = 1..=self.layout.clients.max(1);
         let (marked, unmarked): (Vec<u8>, Vec<u8>) = clients.partition(|&client| session.marks(client));
@@ -465,17 +478,14 @@ impl Run<'_> {
 
     /// Makes one argument wrong, or at least odd.
     fn spoil_call(&mut self, call: &mut Call<'static>) {
-        let wrong = match self.random.below(3) {
-            0 => 0,
-            1 => self.random.between(0, 20),
-            _ => self.random.byte(),
-        };
+        let wrong = self.odd_number();
         let place = match call {
             Call::Begin { client, .. } | Call::Commit { client, .. } | Call::Abort { client, .. } => client,
             Call::Open { client, file, .. } | Call::OpenRead { client, file, .. } => {
                 [client, file].into_iter().nth(self.random.below(2)).unwrap()
             }
             Call::Read { client, file, page } => [client, file, page].into_iter().nth(self.random.below(3)).unwrap(),
+            Call::Look { file, page } => [file, page].into_iter().nth(self.random.below(2)).unwrap(),
             Call::Write { client, file, page, data: bytes, .. } => {
                 if self.random.chance(40) {
                     let any = self.random.below(MAX_DATA + 1);
@@ -487,6 +497,15 @@ impl Run<'_> {
         };
         if self.random.chance(75) {
             *place = wrong;
+        }
+    }
+
+    /// A number that is wrong in most places.
+    fn odd_number(&mut self) -> u8 {
+        match self.random.below(3) {
+            0 => 0,
+            1 => self.random.between(0, 20),
+            _ => self.random.byte(),
         }
     }
 }

@@ -23,6 +23,7 @@ pub mod content;
 pub mod engine;
 pub mod expected;
 pub mod generate;
+pub mod looks;
 pub mod posix;
 pub mod random;
 pub mod readers;

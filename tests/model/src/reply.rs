@@ -99,8 +99,8 @@ impl From<Answer> for RawAnswer {
     }
 }
 
-/// What a call hands back. For a read, which hands back no session, it is the
-/// one given.
+/// What a call hands back. For a read and a look, which hand back no session,
+/// it is the one given.
 #[derive(Clone, Copy, Debug, PartialEq, Eq)]
 pub struct Reply {
     pub session: RawSession,

@@ -136,6 +136,7 @@ fn without_file(lines: &[Line], layout: &Layout, file: u8) -> Vec<Line> {
                 Call::Open { file: named, .. }
                 | Call::OpenRead { file: named, .. }
                 | Call::Read { file: named, .. }
+                | Call::Look { file: named, .. }
                 | Call::Write { file: named, .. } => *named = renumber(*named, file)?,
                 _ => {}
             }
@@ -165,14 +166,16 @@ fn without_client(lines: &[Line], layout: &Layout, client: u8) -> Vec<Line> {
         Line::Reading { client: named, file } => Some(Line::Reading { client: renumber(*named, client)?, file: *file }),
         Line::Call(call) => {
             let mut call = *call;
-            let (Call::Begin { client: named, .. }
-            | Call::Open { client: named, .. }
-            | Call::OpenRead { client: named, .. }
-            | Call::Read { client: named, .. }
-            | Call::Write { client: named, .. }
-            | Call::Commit { client: named, .. }
-            | Call::Abort { client: named, .. }) = &mut call;
-            *named = renumber(*named, client)?;
+            match &mut call {
+                Call::Begin { client: named, .. }
+                | Call::Open { client: named, .. }
+                | Call::OpenRead { client: named, .. }
+                | Call::Read { client: named, .. }
+                | Call::Write { client: named, .. }
+                | Call::Commit { client: named, .. }
+                | Call::Abort { client: named, .. } => *named = renumber(*named, client)?,
+                Call::Look { .. } => {}
+            }
             Some(Line::Call(call))
         }
         other => Some(other.clone()),
@@ -262,11 +265,11 @@ fn plainer_calls(call: &Call<'static>) -> Vec<Call<'static>> {
             }
         }
     }
-    if let Call::Write { page: 1.., .. } | Call::Read { page: 1.., .. } = call {
-        let mut first = *call;
-        if let Call::Write { page, .. } | Call::Read { page, .. } = &mut first {
-            *page = 0;
-        }
+    let mut first = *call;
+    if let Call::Write { page, .. } | Call::Read { page, .. } | Call::Look { page, .. } = &mut first {
+        *page = 0;
+    }
+    if first != *call {
         plainer.push(first);
     }
     plainer
@@ -331,6 +334,19 @@ mod tests {
         assert_eq!(without_client(&script, &layout, 1), lines(alone));
         let short = shrink(script, |lines| lines.iter().any(|line| matches!(line, Line::Reading { client: 2.., .. })));
         assert_eq!(short, lines("reading 2 1"));
+    }
+
+    #[test]
+    fn looks_go_with_their_files_and_stay_with_every_client() {
+        let script = lines("format 2816 2 2 3 1 3\nlook 1 1\nbegin 2\nlook 2 0\nlook 0 9\nlook 3 0");
+        let layout = Layout::of(&script).unwrap();
+        let without_1 = "format 1792 2 1 3\nbegin 2\nlook 1 0\nlook 0 9\nlook 2 0";
+        assert_eq!(without_file(&script, &layout, 1), lines(without_1));
+        let alone = "format 2560 1 2 3 1 3\nlook 1 1\nlook 2 0\nlook 0 9\nlook 3 0";
+        assert_eq!(without_client(&script, &layout, 2), lines(alone));
+        let is_look = |line: &Line| matches!(line, Line::Call(Call::Look { .. }));
+        let short = shrink(script, |lines| lines.iter().filter(|line| is_look(line)).count() == 4);
+        assert_eq!(short, lines("look 1 0\nlook 2 0\nlook 0 0\nlook 3 0"));
     }
 
     #[test]

@@ -141,7 +141,7 @@ pub enum Outcome {
     Refused(u8),
 }
 
-/// What read answers.
+/// What read and look answer.
 #[derive(Clone, Copy, Debug, PartialEq, Eq)]
 pub enum Read {
     Sector(u16),
@@ -301,6 +301,25 @@ pub fn page(volume: &[u8], session: Session, client: u8, file: u8, page: u8) -> 
     }
 }
 
+/// The number of the sector in which anyone finds the page as it was decided
+/// last, whoever has the file. No session is needed.
+pub fn look(volume: &[u8], file: u8, page: u8) -> Read {
+    match decided_sector(volume, file, page) {
+        // As in `read`.
+        Ok(sector) => Read::Sector(sector as u16),
+        Err(number) => Read::Refused(number),
+    }
+}
+
+/// The page that a look finds, as a part of the lent array; empty on a
+/// refusal.
+pub fn look_page(volume: &[u8], file: u8, page: u8) -> &[u8] {
+    match decided_sector(volume, file, page) {
+        Ok(sector) => &sectors(volume)[sector],
+        Err(_) => &[],
+    }
+}
+
 /// Writes the listing into `out` and answers its length; none if the volume
 /// isn't sound or the text doesn't fit.
 pub fn list(volume: &[u8], out: &mut [u8]) -> Option<usize> {
@@ -414,7 +433,7 @@ fn holder_is_sound(record: Record, number: u8, mapped: RealSet) -> bool {
 
 // ------------------------------------------------------------- the refusals
 
-/// Refusals 1 to 3, tested by every call.
+/// Refusals 1 to 3, tested by every call that takes a session.
 fn known_client(volume: &[u8], session: Session, client: u8) -> Result<&[Sector], u8> {
     if !is_sound(volume) {
         return Err(refusal::NOT_SOUND);
@@ -564,6 +583,31 @@ impl<'a> Found<'a> {
         // The real mapped is below 240, so the sum fits.
         from(self.mapped() + 1).or_else(|| from(0))
     }
+}
+
+/// Refusals 1, 6 and 9 of look, and the sector of the decided page: by the
+/// holder's record if that is decided and has the page, else by the map.
+fn decided_sector(volume: &[u8], number: u8, page: u8) -> Result<usize, u8> {
+    if !is_sound(volume) {
+        return Err(refusal::NOT_SOUND);
+    }
+    let sectors = sectors(volume);
+    let file = Table(&sectors[0]).find(number).ok_or(refusal::FILE)?;
+    if page >= file.pages {
+        return Err(refusal::PAGE);
+    }
+    let header = &sectors[file.header];
+    let given = decided_record(sectors, header[HOLDER]).and_then(|record| record.real_of(number, page));
+    Ok(file.sector_of(given.unwrap_or(header[BODY + usize::from(page)])))
+}
+
+/// The record of the client that a header names, if it names one and the
+/// record is decided.
+fn decided_record(sectors: &[Sector], holder: u8) -> Option<Record<'_>> {
+    if holder == 0 {
+        return None;
+    }
+    Some(Record(&sectors[usize::from(holder)])).filter(|record| record.state() == DECIDED)
 }
 
 /// What a write is going to store.

@@ -1,6 +1,6 @@
 //! Lines that are nearly right and that no script may have.
 
-pub const WRONG_LINES: [&str; 42] = [
+pub const WRONG_LINES: [&str; 51] = [
     "nothing",
     "list 1",
     "list ",
@@ -29,6 +29,15 @@ pub const WRONG_LINES: [&str; 42] = [
     "reading 257 1",
     "reading 1 1 1",
     "read 1 2 3 4",
+    "look",
+    "look ",
+    "look 1",
+    "look 1 ",
+    "look 1 2 3",
+    "look 256 0",
+    "look 1 256",
+    "look 1 page",
+    "looks 1 0",
     "write 1 2 3 4",
     "write 1 1 0 0 513",
     "write 1 1 0 256 256",

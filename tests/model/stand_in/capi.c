@@ -52,7 +52,17 @@
  *  48 begin ends all reading holds
  *  49 open_read notes no hold after a recovery
  *  50 open_read without a store is cut at budget 0
- *  51 a call never ends when the record is full
+ *  51 look goes by the map alone
+ *  52 look goes by the entries of an open record
+ *  53 look goes by the entries of a decided record whose client the header doesn't name
+ *  54 look is refused by 7 while a client's record is open
+ *  55 look tests the page before the file
+ *  56 look takes the page's entry of any file
+ *  57 look makes the stores of the recovery
+ *  58 look stores the header of the file
+ *  59 look tests the file before the soundness
+ *  60 look misses the last entry of a full record
+ *  61 a call never ends when the record is full
  */
 #include <stdlib.h>
 #include <string.h>
@@ -518,6 +528,72 @@ vol_answer vol_read(const uint8_t *volume, size_t len, vol_session session, uint
 	return answer(VOL_SECTOR, header + 1 + real);
 }
 
+/* Refusals 1, 6 and 9 of look. */
+static unsigned look_refusal(const uint8_t *volume, size_t len, uint8_t file, uint8_t page)
+{
+	if (MISSTEP == 59 && len > 0 && (file < 1 || file > 16))
+		return 6;
+	if (!vol_is_sound(volume, len))
+		return 1;
+	for (int k = 1; k <= volume[4] && MISSTEP == 54; k++)
+		if (volume[256 * k + 2] == 1)
+			return 7;
+	int no_file = file < 1 || file > volume[5];
+	if (MISSTEP == 55 && no_file && page >= 120)
+		return 9;
+	return no_file ? 6 : page >= entry_of(volume, file)[2] ? 9 : 0;
+}
+
+/* The client by whose record a look goes, or 0. */
+static int decider_of(const uint8_t *volume, int file)
+{
+	int holder = holder_of(volume, file);
+	for (int k = 1; k <= volume[4] && MISSTEP == 53 && holder == 0; k++)
+		if (volume[256 * k + 2] == 2 && has_entry(volume + 256 * k, file))
+			return k;
+	if (holder == 0 || MISSTEP == 51)
+		return 0;
+	int state = volume[256 * holder + 2];
+	return state == 2 || (state == 1 && MISSTEP == 52) ? holder : 0;
+}
+
+/* The real that the record gives for the page to a look; -1 if it gives none. */
+static int looked_up(const uint8_t *r, uint8_t file, uint8_t page)
+{
+	uint8_t shorter[256];
+	memcpy(shorter, r, 256);
+	if (MISSTEP == 60 && r[3] == 62)
+		shorter[3]--;
+	for (int i = 0; i < r[3] && MISSTEP == 56; i++)
+		if (r[8 + 4 * i + 1] == page)
+			return r[8 + 4 * i + 2];
+	return given(shorter, file, page);
+}
+
+/* The stores that a look shouldn't make. */
+static void stores_of_look(uint8_t *volume, int decider, int file)
+{
+	struct supply s = {volume, 255, 0, 0};
+	if (MISSTEP == 57 && decider)
+		recover(&s, decider, 0, 0);
+	if (MISSTEP == 58 && decider)
+		recover_file(&s, decider, file, 2);
+}
+
+vol_answer vol_look(const uint8_t *volume, size_t len, uint8_t file, uint8_t page)
+{
+	unsigned no = look_refusal(volume, len, file, page);
+	if (no)
+		return answer(VOL_REFUSED, no);
+	unsigned header = header_of(volume, file);
+	int decider = decider_of(volume, file);
+	int real = decider ? looked_up(volume + 256 * decider, file, page) : -1;
+	if (real < 0)
+		real = volume[256 * (size_t)header + 8 + page];
+	stores_of_look((uint8_t *)volume, decider, file);
+	return answer(VOL_SECTOR, header + 1 + real);
+}
+
 /* Where the search for a free real begins. */
 static int start_of(const uint8_t *map, int pages, int page)
 {
@@ -557,7 +633,7 @@ vol_reply vol_write(uint8_t *volume, size_t len, vol_session session, uint8_t cl
 	const uint8_t *h = volume + 256 * (size_t)header, *r = volume + 256 * client;
 	const uint8_t *e = entry_of(volume, file);
 	int real = given(r, file, page), fresh = real < 0;
-	while (MISSTEP == 51 && fresh && r[3] == 62)
+	while (MISSTEP == 61 && fresh && r[3] == 62)
 		__asm__ volatile("");
 	if (fresh) {
 		char used[256] = {0};

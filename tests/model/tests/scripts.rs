@@ -49,6 +49,9 @@ fn lines_come_back_as_they_were() {
         "begin 1 0",
         "open 255 0 254",
         "read 1 2 3",
+        "look 1 0",
+        "look 0 255",
+        "look 255 0",
         "write 1 2 3 255 512",
         "write 1 2 3 0 0 7",
         "commit 4 1",
@@ -116,6 +119,31 @@ fn calls_take_and_hand_back_the_holds() {
     // Refused, whatever is in the session.
     let script = b"format 2816 2 2 3 1 3\nreading 3 7\nbegin 1\nsession\nread 1 1 0\nsession 0\nbegin 1\n";
     assert_eq!(output_of(script), "done\nrefused 2\nsession 0\nkiln 3 reads 7\nrefused 2\ndone 1\n");
+}
+
+/// On any volume, or none, and whatever the session is.
+#[test]
+fn looks_print_what_reads_print() {
+    let v = "format 2816 2 2 3 1 3\n";
+    let zeros = "00".repeat(256);
+    let script = format!("look 1 0\n{v}look 1 0\nlook 2 0\nlook 02 000\nlook 3 0\nlook 0 9\nlook 1 2\nlook 255 255\n");
+    let found = format!("sector 4 {zeros}\nsector 8 {zeros}\nsector 8 {zeros}\n");
+    let refused = "refused 6\nrefused 6\nrefused 9\nrefused 6\n";
+    assert_eq!(output_of(script.as_bytes()), format!("refused 1\ndone\n{found}{refused}"));
+    let script = format!("{v}session 12\nreading 3 7\nlook 1 1\nsession\npoke 0 0\nlook 1 1\nsession\n");
+    let session = "session 12\nkiln 3 reads 7\n";
+    assert_eq!(output_of(script.as_bytes()), format!("done\nsector 5 {zeros}\n{session}refused 1\n{session}"));
+}
+
+/// The old one while the transaction runs, the new one from the deciding store
+/// on.
+#[test]
+fn a_look_prints_the_decided_page() {
+    let script = b"format 2816 2 2 3 1 3\nbegin 1\nopen 1 2\nwrite 1 2 0 254 256\nlook 2 0\ncommit 1 1\nlook 2 0\n";
+    let old = "00".repeat(256);
+    let new: String = (0..256).map(|index| format!("{:02X}", (254 + index) % 256)).collect();
+    let expected = format!("done\ndone 1\ndone 1\ndone 2\nsector 8 {old}\ncut 1\nsector 9 {new}\n");
+    assert_eq!(output_of(script), expected);
 }
 
 #[test]

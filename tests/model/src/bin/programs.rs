@@ -92,7 +92,7 @@ fn scripts(random: &mut Random, count: usize) -> impl Iterator<Item = Vec<u8>> +
 }
 
 /// A transaction that writes a page, which goes on to the next free real.
-const REWRITE: &str = "begin 1\nopen 1 2\nwrite 1 2 0 7 256\nread 1 2 0\ncommit 1\n";
+const REWRITE: &str = "begin 1\nopen 1 2\nwrite 1 2 0 7 256\nread 1 2 0\nlook 2 0\ncommit 1\nlook 2 0\n";
 
 /// Both clients read file 1, and client 1 writes to it once it reads alone.
 const READERS: &str =
@@ -103,6 +103,15 @@ const READERS: &str =
 const ORPHANED: &str = "session 0\nbegin 1\nopen 1 1\nwrite 1 1 0 7 256\ncommit 1 1\nbegin 2\nopen_read 2 1\n\
     read 2 1 0\nsession\n";
 
+/// A look at every page.
+const LOOKS: &str = "look 1 0\nlook 1 1\nlook 2 0\n";
+
+/// Looks before and after a commit of both files, which is cut at any store.
+fn looks(random: &mut Random) -> String {
+    let write = "session 0\nbegin 2\nopen 2 1\nopen 2 2\nwrite 2 1 1 9 256\nwrite 2 2 0 9 256\n";
+    format!("{write}{LOOKS}commit 2 {}\n{LOOKS}session\n", random.below(5))
+}
+
 fn script(random: &mut Random) -> Vec<u8> {
     let mut text = String::from("format 2816 2 2 3 1 3\n");
     if random.chance(30) {
@@ -112,6 +121,7 @@ fn script(random: &mut Random) -> Vec<u8> {
         match random.below(20) {
             0 => text += READERS,
             1 => text += ORPHANED,
+            2 => text += &looks(random),
             _ => {
                 text += &line(random);
                 text.push('\n');
@@ -125,12 +135,13 @@ fn script(random: &mut Random) -> Vec<u8> {
     text
 }
 
-const WORDS: [&str; 15] = [
+const WORDS: [&str; 16] = [
     "begin",
     "open",
     "open_read",
     "write",
     "read",
+    "look",
     "commit",
     "abort",
     "session",
@@ -173,7 +184,7 @@ fn arguments(random: &mut Random, word: &str) -> usize {
     let right = match word {
         "session" if random.chance(50) => 0,
         "begin" | "commit" | "abort" | "session" | "dump" => 1,
-        "open" | "open_read" | "reading" | "poke" => 2,
+        "open" | "open_read" | "look" | "reading" | "poke" => 2,
         "read" => 3,
         "write" => 5,
         "format" => 2 + 2 * random.below(4),

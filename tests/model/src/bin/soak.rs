@@ -103,6 +103,14 @@ fn print_counts(shared: &Shared) {
         count(tally::SEVERAL_READERS)
     );
     println!(
+        "looks {} (at pages of a decided record {}, of an open one {}), against the book {}",
+        count(tally::LOOKS),
+        count(tally::LOOKS_AT_DECIDED),
+        count(tally::LOOKS_AT_OPEN),
+        count(tally::LOOKS_AGAINST_BOOK)
+    );
+    println!("files opened by clients that didn't hold them {}, each as looked at", count(tally::OPENED_AS_LOOKED));
+    println!(
         "calls cut at every store {}, shorter budgets tried {}, listings {}",
         count(tally::CUT_SWEEPS),
         count(tally::PREFIXES),

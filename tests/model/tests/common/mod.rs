@@ -39,7 +39,7 @@ pub fn make_raw(volume: &mut [u8], session: RawSession, call: Call) -> Reply {
     both(volume, |engine, volume| engine.call(volume, session, &call))
 }
 
-/// Makes a call; a read hands back the session given.
+/// Makes a call; a read and a look hand back the session given.
 pub fn make(volume: &mut [u8], session: Session, call: Call) -> (Session, Answer) {
     let reply = make_raw(volume, session.into(), call);
     (reply.session.session().unwrap(), reply.answer.answer().unwrap())
@@ -142,18 +142,32 @@ impl Desk {
     }
 
     pub fn read(&self, client: u8, file: u8, page: u8) -> Read {
+        self.find(Call::Read { client, file, page })
+    }
+
+    pub fn look(&self, file: u8, page: u8) -> Read {
+        self.find(Call::Look { file, page })
+    }
+
+    /// What a read or a look answers, which changes nothing.
+    fn find(&self, call: Call) -> Read {
         let mut copy = self.volume.clone();
-        let answer = make(&mut copy, self.session, Call::Read { client, file, page }).1;
-        assert!(copy == self.volume, "a read changed something");
+        let (session, answer) = make(&mut copy, self.session, call);
+        assert!(copy == self.volume && session == self.session, "{call} changed something");
         match answer {
             Answer::Sector(sector) => Read::Sector(sector),
             Answer::Refused(number) => Read::Refused(number),
-            other => panic!("a read answers {other:?}"),
+            other => panic!("{call} answers {other:?}"),
         }
     }
 
     pub fn page(&self, client: u8, file: u8, page: u8) -> &[u8] {
         volume::page(&self.volume, self.session, client, file, page)
+    }
+
+    /// The page that a look finds.
+    pub fn look_page(&self, file: u8, page: u8) -> &[u8] {
+        volume::look_page(&self.volume, file, page)
     }
 
     pub fn sector(&self, number: usize) -> &[u8] {
