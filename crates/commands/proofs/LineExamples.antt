@@ -5,13 +5,13 @@ use mathlib.Core.List.{List, [], _∷_, map}
 use Prim.Native.String.{String}
 use Rattle.script.specs.Fields.{fromField}
 use Rattle.script.specs.Kinds.{bytesOf}
-use Rattle.rules.specs.Plans.{begin, openFile, openRead, write, commit, abort, readPage}
+use Rattle.rules.specs.Plans.{begin, openFile, openRead, write, commit, abort, readPage, lookPage}
 use Rattle.atomicity.specs.Runs.{Step, calls, asks}
 use Rattle.commands.specs.declared.Action.{Action}
 use Rattle.commands.specs.Commands.{stepOf}
 use Rattle.commands.specs.Lines.{values, lineCommand, lineStep}
 
--- A BUDGET is the last argument.
+-- A BUDGET is the last argument. A look names no client.
 with-budgets : lineStep Action.Begin (bytesOf "begin 2 4")
     ∷ lineStep Action.Open (bytesOf "open 2 3 4")
     ∷ lineStep Action.OpenRead (bytesOf "open_read 2 3 4")
@@ -19,6 +19,7 @@ with-budgets : lineStep Action.Begin (bytesOf "begin 2 4")
     ∷ lineStep Action.Commit (bytesOf "commit 2 4")
     ∷ lineStep Action.Abort (bytesOf "abort 2 4")
     ∷ lineStep Action.Read (bytesOf "read 2 3 5")
+    ∷ lineStep Action.Look (bytesOf "look 3 5")
     ∷ []
     ≡ calls false (begin 2) 4
     ∷ calls false (openFile 2 3) 4
@@ -27,6 +28,7 @@ with-budgets : lineStep Action.Begin (bytesOf "begin 2 4")
     ∷ calls false (commit 2) 4
     ∷ calls false (abort 2) 4
     ∷ asks false (readPage 2 3 5)
+    ∷ asks false (lookPage 3 5)
     ∷ []
 unfolding stepOf lineCommand values fromField
 with-budgets = refl

@@ -9,7 +9,7 @@ use Rattle.script.specs.Fields.{arguments, argument}
 use Rattle.atomicity.specs.Runs.{Step}
 use Rattle.commands.specs.declared.Action.{Action}
 use Rattle.commands.specs.declared.Command.{Command}
-use Rattle.commands.specs.Commands.{stepOf}
+use Rattle.commands.specs.Commands.{isLook, stepOf}
 
 -- Argument i as a byte. A line that is understood has no larger one where this is asked.
 abbrev pub byteArgument : ℕ → Bytes → ℕ
@@ -36,7 +36,11 @@ ramp seed n = values (λ i. (seed + i) % 256) n
 abbrev pub lineData : Bytes → Bytes
 lineData l = ramp (byteArgument 4 l) (dataLength l)
 
--- Which argument is the BUDGET: the last one. A read has none, and what its budget is says nothing.
+-- Which argument is the file: the one behind the client. A look has no client.
+abbrev pub filePlace : Action → ℕ
+filePlace a = if isLook a then 1 else 2
+
+-- Which argument is the BUDGET: the last one. A read and a look have none, and what their budget is says nothing.
 abbrev pub budgetPlace : Action → ℕ
 budgetPlace Action.Begin = 2
 budgetPlace Action.Open = 3
@@ -45,15 +49,17 @@ budgetPlace Action.Write = 6
 budgetPlace Action.Commit = 2
 budgetPlace Action.Abort = 2
 budgetPlace Action.Read = 4
+budgetPlace Action.Look = 4
 
--- The command of a line: client, file and page come first. Arguments that the call doesn't take say nothing.
+-- The command of a line: client, file and page come first. Arguments that the call doesn't take say nothing, and so does the client
+-- of a look.
 unfoldable pub lineCommand : Action → Bytes → Command
 lineCommand a l = record {
   action = a;
   crash = false;
   client = byteArgument 1 l;
-  file = byteArgument 2 l;
-  page = byteArgument 3 l;
+  file = byteArgument (filePlace a) l;
+  page = byteArgument (filePlace a + 1) l;
   budget = budgetArgument (budgetPlace a) l;
 }
 

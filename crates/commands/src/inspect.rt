@@ -1,4 +1,4 @@
-// The lines that are no commands: a read's second call, sessions, single bytes and whole sectors; and those that are
+// The lines that are no commands, and a question's second call: sessions, single bytes and whole sectors; and those that are
 // passed over. Ruled out: a change of the byte after the last one (`must-fail/poke_past_the_end`); a sector shown that
 // the end of the volume cuts off.
 use crate::Action;
@@ -9,10 +9,10 @@ use interface::Session;
 use script::fields::argument;
 use sector::Sector;
 ghost use mathlib.Core.Path.{_≡_};
-ghost use Rattle.rules.specs.Plans.{readPage};
 ghost use Rattle.rules.specs.Calls.{queryPart};
 ghost use Rattle.script.specs.Fields;
-ghost use Rattle.commands.specs.Lines.{byteArgument};
+ghost use Rattle.commands.specs.Commands.{queryOf};
+ghost use Rattle.commands.specs.Lines.{lineCommand};
 ghost use Rattle.commands.specs.Inspect.{isRemark, sessionSet, isHold, readingAdded, showsHold, poked, dumped};
 
 // Whether the line is passed over: it is empty or begins with `#`.
@@ -68,12 +68,11 @@ pub fn shows_hold(s: Session, k: u8, f: u8) -> bool
     false
 }
 
-// `read K F P`: the second call, which hands back the page itself.
-pub fn page<'a>(v: &'a [u8], s: Session, line: &[u8]) -> &'a [u8]
-    ensures { λ r. ⌜ now r ≡ queryPart (now (v .entry)) s
-        (readPage (byteArgument 1 (now (line .entry))) (byteArgument 2 (now (line .entry))) (byteArgument 3 (now (line .entry)))) ⌝ }
+// `read K F P`, `look F P`: the second call, which hands back the page itself.
+pub fn page<'a>(v: &'a [u8], s: Session, a: Action, line: &[u8]) -> &'a [u8]
+    ensures { λ r. ⌜ now r ≡ queryPart (now (v .entry)) s (queryOf (lineCommand a (now (line .entry)))) ⌝ }
 {
-    crate::page(v, s, command(Action::Read, line))
+    crate::page(v, s, command(a, line))
 }
 
 // Argument n as an address.

@@ -7,6 +7,7 @@ mod performer;
 use interface::Outcome;
 use interface::QueryOutcome;
 use interface::Session;
+use performer::is_look;
 pub use performer::page;
 pub use performer::perform;
 
@@ -19,6 +20,7 @@ pub enum Action {
     Commit,
     Abort,
     Read,
+    Look,
 }
 
 // A call with its arguments; those that it doesn't take are ignored. `crash`: the supply failed before it, so it is

@@ -4,6 +4,7 @@
 use crate::Action;
 use crate::Command;
 use crate::Performed;
+use crate::is_look;
 use crate::perform;
 use interface::FormatOutcome;
 use interface::Session;
@@ -19,7 +20,7 @@ ghost use Rattle.format.specs.Outcomes.{formatted};
 ghost use Rattle.atomicity.specs.Model.{Model};
 ghost use Rattle.script.specs.Fields;
 ghost use Rattle.commands.specs.Commands.{runOf, IsPerformed};
-ghost use Rattle.commands.specs.Lines.{byteArgument, budgetArgument, budgetPlace, lineCommand, lineStep, dataLength, shapeLength, shapeOf, ramp};
+ghost use Rattle.commands.specs.Lines.{byteArgument, budgetArgument, filePlace, budgetPlace, lineCommand, lineStep, dataLength, shapeLength, shapeOf, ramp};
 
 // Argument n as a byte.
 pub fn byte_argument(line: &[u8], n: usize) -> u8
@@ -42,6 +43,16 @@ fn budget(line: &[u8], n: usize) -> u8
     byte_argument(line, n)
 }
 
+// Which argument of the line is its file. Ruled out: a look's page taken for its file (`must-fail/look_behind_a_client`).
+fn file_place(a: Action) -> usize
+    ensures { λ r. ⌜ (r ≡ filePlace a) × (r ≤ 2) ⌝ }
+{
+    if is_look(a) {
+        return 1;
+    }
+    2
+}
+
 // Which argument of the line is its budget.
 fn budget_place(a: Action) -> usize
     ensures { λ r. ⌜ r ≡ budgetPlace a ⌝ }
@@ -54,6 +65,7 @@ fn budget_place(a: Action) -> usize
         Action::Commit => 2,
         Action::Abort => 2,
         Action::Read => 4,
+        Action::Look => 4,
     }
 }
 
@@ -61,12 +73,13 @@ fn budget_place(a: Action) -> usize
 pub fn command(a: Action, line: &[u8]) -> Command
     ensures { λ r. ⌜ r ≡ lineCommand a (now (line .entry)) ⌝ }
 {
+    let at = file_place(a);
     Command {
         action: a,
         crash: false,
         client: byte_argument(line, 1),
-        file: byte_argument(line, 2),
-        page: byte_argument(line, 3),
+        file: byte_argument(line, at),
+        page: byte_argument(line, at + 1),
         budget: budget(line, budget_place(a)),
     }
 }
@@ -95,7 +108,7 @@ fn data_length(line: &[u8]) -> usize
     512
 }
 
-// `begin K [BUDGET]`, `open K F [BUDGET]`, `open_read K F [BUDGET]`, the first call of `read K F P`,
+// `begin K [BUDGET]`, `open K F [BUDGET]`, `open_read K F [BUDGET]`, the first call of `read K F P` and of `look F P`,
 // `write K F P SEED LENGTH [BUDGET]`, `commit K [BUDGET]`, `abort K [BUDGET]`.
 pub fn perform_line(v: &mut [u8], s: Session, a: Action, line: &[u8]) -> Performed
     ensures { λ r. ⌜ ((m : Model) → IsPerformed (runOf (now (v .entry)) s m) (lineStep a (now (line .entry))) r (now (v .exit))) ⌝ }

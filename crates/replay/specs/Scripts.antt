@@ -13,7 +13,7 @@ use Rattle.commands.specs.declared.Action.{Action}
 use Rattle.commands.specs.declared.Command.{Command}
 use Rattle.commands.specs.Commands.{stepOf}
 
--- 0 begin, 1 open, 2 write, 3 commit, 4 abort, 6 open for reading; any other is a read.
+-- 0 begin, 1 open, 2 write, 3 commit, 4 abort, 6 open for reading, 7 look; any other is a read.
 abbrev pub actionOf : ℕ → Action
 actionOf n =
     if eqb n 0 then Action.Begin
@@ -22,6 +22,7 @@ actionOf n =
     else if eqb n 3 then Action.Commit
     else if eqb n 4 then Action.Abort
     else if eqb n 6 then Action.OpenRead
+    else if eqb n 7 then Action.Look
     else Action.Read
 
 -- The command of the step at the front. `crash` other than 0: it is given a new session. A read hands back none, so a crash

@@ -31,6 +31,7 @@ actionLength Action.Write = 12
 actionLength Action.Commit = 12
 actionLength Action.Abort = 12
 actionLength Action.Read = 524
+actionLength Action.Look = 524
 
 -- What is noted of a command on volume v whose answer was this; s is the session before it, q the one last handed back after it.
 abbrev pub noted : Volume → (s : Session) → Command → Told → (q : Session) → Event

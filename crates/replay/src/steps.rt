@@ -41,6 +41,7 @@ fn action(n: u8) -> Action
         3 => Action::Commit,
         4 => Action::Abort,
         6 => Action::OpenRead,
+        7 => Action::Look,
         _ => Action::Read,
     }
 }
@@ -79,6 +80,7 @@ fn entry_length(a: Action) -> usize
         Action::Commit => 12,
         Action::Abort => 12,
         Action::Read => 524,
+        Action::Look => 524,
     }
 }
 

@@ -49,8 +49,8 @@ pub fn put_hex(bytes: &[u8]) {
     put(b"\n");
 }
 
-// A read's answer, and the part of the volume that it hands back.
-pub fn put_read(o: QueryOutcome, page: &[u8]) {
+// A question's answer, and the part of the volume that it hands back.
+pub fn put_query(o: QueryOutcome, page: &[u8]) {
     match o {
         QueryOutcome::Sector(n) => {
             put(b"sector ");

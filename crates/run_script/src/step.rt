@@ -3,7 +3,7 @@ use crate::print::put_format;
 use crate::print::put_hex;
 use crate::print::put_list;
 use crate::print::put_outcome;
-use crate::print::put_read;
+use crate::print::put_query;
 use crate::print::put_session;
 use commands::Action;
 use commands::Told;
@@ -30,7 +30,7 @@ fn run_call(v: &mut [u8], s: Session, a: Action, line: &[u8]) -> Turn {
     let t = p.told;
     match t {
         Told::Call(o) => put_outcome(o),
-        Told::Query(o) => put_read(o, commands::inspect::page(v, s, line)),
+        Told::Query(o) => put_query(o, commands::inspect::page(v, s, a, line)),
     }
     let next = p.session;
     Turn {
@@ -91,6 +91,7 @@ fn run_line(v: &mut [u8], s: Session, kind: Kind, line: &[u8]) -> Turn {
         Kind::Commit => run_call(v, s, Action::Commit, line),
         Kind::Abort => run_call(v, s, Action::Abort, line),
         Kind::Read => run_call(v, s, Action::Read, line),
+        Kind::Look => run_call(v, s, Action::Look, line),
         Kind::Session => Turn {
             session: commands::inspect::session(line),
             is_understood: true,

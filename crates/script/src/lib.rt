@@ -13,6 +13,7 @@ pub enum Kind {
     Commit,
     Abort,
     Read,
+    Look,
     // The session is set.
     Session,
     // The session is shown.
