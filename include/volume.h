@@ -7,14 +7,15 @@
 // volume has one session for all its clients. All zero is a new session: start with one, give each call the session of
 // the last reply, and start with a new one again after a crash. Don't make sessions up, and don't go back to an older
 // one: it has forgotten the holds noted since. One that doesn't fit the volume is refused by 2, or by 1 if the array
-// isn't a sound volume; so is one with a bit of `active` above the fourth.
+// isn't a sound volume; so is one with a bit of `active` above the fourth. vol_look takes no session.
 //
-// A call that takes a session and a budget hands back a reply; vol_format and vol_read an answer, without a session:
+// A call that takes a session and a budget hands back a reply; vol_format, vol_read and vol_look an answer, without a
+// session:
 //   VOL_DONE: number is the count of stores; the session is the one for the next call.
 //   VOL_CUT: the budget ran out; number is the count of stores made, all of them whole; the session is a new one: the
 //     transactions and holds of all clients are over.
 //   VOL_REFUSED: number is the refusal; nothing was stored; the session is the one given.
-//   VOL_SECTOR (vol_read only): number is the sector.
+//   VOL_SECTOR (vol_read and vol_look only): number is the sector.
 // A budget is the number of sector stores that a call may make; 255 is always enough.
 #ifndef VOLUME_H
 #define VOLUME_H
@@ -126,6 +127,16 @@ vol_reply vol_open_read(uint8_t *volume, size_t len, vol_session session, uint8_
 // Go on with the session given.
 // Refused by 1, 2, 3, 5, 6, 8, 9.
 vol_answer vol_read(const uint8_t *volume, size_t len, vol_session session, uint8_t client, uint8_t file, uint8_t page);
+
+// Finds the page (from 0) of a file for one that only looks, such as a display. It takes no session, holds nothing and
+// stores nothing: it makes no client wait, and no client makes it wait.
+// The page is that of the decided content: a running transaction isn't seen, nor one whose commit was cut with number 0;
+// one whose commit was cut with 1 or more is seen whole, before any call has recovered it.
+// Looks with no store between them show one content: of each transaction all pages or none. Across a store nothing is
+// promised: look at all pages that belong together, and copy what is to be shown, before the next call that stores.
+// Answer: sector, and the page's 256 bytes are at volume + 256 * number until the next call that stores; or refused.
+// Refused by 1, 6, 9.
+vol_answer vol_look(const uint8_t *volume, size_t len, uint8_t file, uint8_t page);
 
 // Writes 256 bytes as the page of a file that the client holds for writing; others see them after the commit.
 // The first write of a page in a transaction takes a free sector of the file: the first above the page's own, and after
