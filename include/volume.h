@@ -130,8 +130,8 @@ vol_answer vol_read(const uint8_t *volume, size_t len, vol_session session, uint
 
 // Finds the page (from 0) of a file for one that only looks, such as a display. It takes no session, holds nothing and
 // stores nothing: it makes no client wait, and no client makes it wait.
-// The page is that of the decided content: a running transaction isn't seen, nor one whose commit was cut with number 0;
-// one whose commit was cut with 1 or more is seen whole, before any call has recovered it.
+// The page is that of the decided content: a running transaction isn't seen, nor is one whose commit was cut with
+// number 0; one whose commit was cut with 1 or more is seen whole, before any call has recovered it.
 // Looks with no store between them show one content: of each transaction all pages or none. Across a store nothing is
 // promised: look at all pages that belong together, and copy what is to be shown, before the next call that stores.
 // Answer: sector, and the page's 256 bytes are at volume + 256 * number until the next call that stores; or refused.

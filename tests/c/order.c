@@ -118,6 +118,35 @@ static void recover_decided_record(void) {
     STORES("open_read, redoing", open_read_by(s, 2, 2), {3, redone}, {7, redone}, {1, idle});
 }
 
+// A look writes nothing, whatever record the file's holder has. It finds a page by the map while the record is open,
+// and by the entries once it is decided; where the header was stored since, by the new map.
+static void looks(void) {
+    format_v();
+    stores_nothing("look, nobody holds it", look_at(1, 0), VOL_SECTOR, 4);
+    back();
+    stores_nothing("look, the record is open", look_at(1, 0), VOL_SECTOR, 4);
+    stores_nothing("look, the record is open", look_at(2, 0), VOL_SECTOR, 8);
+    decide(marked(1), 1);
+    stores_nothing("look, the record is decided", look_at(1, 0), VOL_SECTOR, 6);
+    stores_nothing("look, decided without the page", look_at(1, 1), VOL_SECTOR, 5);
+    stores_nothing("look, the record is decided", look_at(2, 0), VOL_SECTOR, 9);
+    back();
+    check("cut", make(commit_by(marked(1), 1), 2).kind == VOL_CUT);
+    stores_nothing("look, redone", look_at(1, 0), VOL_SECTOR, 6);
+    stores_nothing("look, not yet redone", look_at(2, 0), VOL_SECTOR, 9);
+    back();
+}
+
+// Nor does a refused one.
+static void looks_refused(void) {
+    stores_nothing("look, refused", look_at(0, 0), VOL_REFUSED, 6);
+    stores_nothing("look, refused", look_at(3, 2), VOL_REFUSED, 6);
+    stores_nothing("look, refused", look_at(1, 2), VOL_REFUSED, 9);
+    volume[0] = 0;
+    stores_nothing("look, refused", look_at(1, 0), VOL_REFUSED, 1);
+    back();
+}
+
 // Reads, tests and listings write nothing, and nor does an open, of either kind, of a file that the client holds.
 static void no_stores(void) {
     struct call open_read = open_read_by(marked(1), 1, 1);
@@ -257,6 +286,10 @@ static void full_record(void) {
     const vol_session s = marked(8);
     for (uint8_t page = 1; page <= 46; page++) done(write_by(s, 4, 1, page, 0));
     stores_nothing("write, refused", write_by(s, 4, 1, 47, 40), VOL_REFUSED, 12);
+    stores_nothing("look, an open record of 62", look_at(1, 46), VOL_SECTOR, 6 + 46);
+    decide(s, 4);
+    stores_nothing("look, the last of 62 decided", look_at(1, 46), VOL_SECTOR, 6 + 120 + 46);
+    stores_nothing("look, 62 decided without the page", look_at(1, 47), VOL_SECTOR, 6 + 47);
     back();
 }
 
@@ -296,6 +329,8 @@ int main(int count, char **words) {
     no_stores();
     refused();
     refused_to_another();
+    looks();
+    looks_refused();
     commit_and_abort();
     recover_open_record();
     recover_decided_record();

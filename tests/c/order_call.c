@@ -74,6 +74,12 @@ struct call read_by(vol_session s, uint8_t client, uint8_t file, uint8_t number)
     return c;
 }
 
+struct call look_at(uint8_t file, uint8_t number) {
+    struct call c = by(LOOK, marked(0), 0, file);
+    c.page = number;
+    return c;
+}
+
 // An answer as a reply, with the session given.
 static vol_reply answered(struct call c, vol_answer answer) {
     return (vol_reply){c.session, answer.kind, answer.number};
@@ -93,6 +99,7 @@ vol_reply make(struct call c, uint8_t budget) {
     case COMMIT: return vol_commit(volume, length, c.session, c.client, budget);
     case ABORT: return vol_abort(volume, length, c.session, c.client, budget);
     case READ: return answered(c, vol_read(volume, length, c.session, c.client, c.file, c.page));
+    case LOOK: return answered(c, vol_look(volume, length, c.file, c.page));
     case FORMAT: return answered(c, vol_format(volume, c.count, c.fill, shape, sizeof shape));
     case IS_SOUND: return tested(c, vol_is_sound(volume, length) == 1);
     default: return tested(c, vol_list(volume, length, text, sizeof text) > 0);

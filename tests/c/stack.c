@@ -71,6 +71,10 @@ static void read_on(struct call *c) {
     take(c, vol_read(volume, LENGTH, c->session, c->client, c->file, c->page));
 }
 
+static void look_on(struct call *c) {
+    take(c, vol_look(volume, LENGTH, c->file, c->page));
+}
+
 static void write_on(struct call *c) {
     c->reply = vol_write(volume, LENGTH, c->session, c->client, c->file, c->page, page, c->count, c->budget);
 }
@@ -89,6 +93,12 @@ static void list_on(struct call *c) {
 
 static struct call by(void (*make)(struct call *), vol_session session, uint8_t client, uint8_t file) {
     return (struct call){.make = make, .session = session, .client = client, .file = file, .budget = 255};
+}
+
+static struct call look_at(uint8_t number) {
+    struct call c = by(look_on, new_session, 0, LAST);
+    c.page = number;
+    return c;
 }
 
 static struct call write_by(vol_session session, uint8_t client, uint8_t file, uint8_t number, size_t count) {
@@ -187,11 +197,13 @@ static void write_pages(void) {
     report("vol_write, refused: page length", write_by(by_4, 4, LAST, ENTRIES, 255), reply(VOL_REFUSED, by_4, 10));
 }
 
-static void look(void) {
+// The last client holds the file, and its record is full and open.
+static void read_and_list(void) {
     struct call read = by(read_on, by_4, 4, LAST);
     read.page = ENTRIES - 1;
     report("vol_read", read, reply(VOL_SECTOR, new_session, LAST_SECTOR));
     expect("the page read", memcmp(volume + 256 * LAST_SECTOR, page, 256) == 0);
+    report("vol_look", look_at(ENTRIES - 1), reply(VOL_SECTOR, new_session, FIRST_SLOT + ENTRIES - 1));
     uint64_t length = vol_list(volume, LENGTH, text, sizeof text);
     expect("the listing has text", length > 0);
     report("vol_list", by(list_on, new_session, 0, 0), reply(VOL_DONE, new_session, (unsigned)length));
@@ -205,12 +217,20 @@ static void commit_and_abort(void) {
     memcpy(volume, written, LENGTH);
 }
 
+// The holder's record is full and decided: it has the page in its last entry, or doesn't have it.
+static void looks(void) {
+    report("vol_look, decided", look_at(ENTRIES - 1), reply(VOL_SECTOR, new_session, LAST_SECTOR));
+    report("vol_look, decided without the page", look_at(119), reply(VOL_SECTOR, new_session, FIRST_SLOT + 119));
+    report("vol_look, refused: no page", look_at(120), reply(VOL_REFUSED, new_session, 9));
+}
+
 // A commit that is cut after its first store: the next call recovers it, in all sixteen files.
 static void recover(void) {
     const vol_session no_session = {.active = 16}, read_by_1 = {1, {LAST_BIT}};
     struct call cut = by(commit_on, by_4, 4, 0);
     cut.budget = 1;
     report("vol_commit, cut", cut, reply(VOL_CUT, new_session, 1));
+    looks();
     memcpy(written, volume, LENGTH);
     report("vol_begin, with a recovery", by(begin_on, new_session, 4, 0), reply(VOL_DONE, by_4, FILES + 2));
     memcpy(volume, written, LENGTH);
@@ -267,7 +287,7 @@ int main(void) {
     for (int i = 0; i < 256; i++) page[i] = (uint8_t)(255 - i);
     begin_and_open();
     write_pages();
-    look();
+    read_and_list();
     commit_and_abort();
     recover();
     readers();
