@@ -13,6 +13,7 @@ pub enum Function {
     Open,
     OpenRead,
     Read,
+    Look,
     Write,
     Commit,
     Abort,
@@ -22,7 +23,7 @@ pub enum Function {
 impl Function {
     fn form(self) -> Form {
         match self {
-            Function::Format | Function::Read => Form::Answer,
+            Function::Format | Function::Read | Function::Look => Form::Answer,
             Function::IsSound | Function::List => Form::Number,
             _ => Form::Reply,
         }

@@ -50,6 +50,14 @@ fn refused(number: u8) -> RawAnswer {
     RawAnswer { kind: REFUSED, number: number.into() }
 }
 
+/// The answer of a read or a look.
+fn found(read: Read) -> RawAnswer {
+    match read {
+        Read::Sector(sector) => RawAnswer { kind: SECTOR, number: sector },
+        Read::Refused(number) => refused(number),
+    }
+}
+
 /// The answer to a session that has other bits than marks.
 fn foreign(volume: &[u8]) -> RawAnswer {
     refused(if volume::is_sound(volume) { refusal::SESSION } else { refusal::NOT_SOUND })
@@ -127,10 +135,12 @@ pub unsafe extern "C" fn read(
     let Some(session) = session(&given) else {
         return foreign(volume);
     };
-    match volume::read(volume, session, client, file, page) {
-        Read::Sector(sector) => RawAnswer { kind: SECTOR, number: sector },
-        Read::Refused(number) => refused(number),
-    }
+    found(volume::read(volume, session, client, file, page))
+}
+
+#[inline(never)]
+pub unsafe extern "C" fn look(at: *const u8, len: usize, file: u8, page: u8) -> RawAnswer {
+    found(volume::look(from_raw_parts(at, len), file, page))
 }
 
 #[inline(never)]

@@ -12,6 +12,7 @@ pub fn scenes(place: &Place) -> Vec<Scene> {
     scenes.extend(starts(place));
     scenes.extend(opens(place));
     scenes.extend(pages(place));
+    scenes.extend(looks(place));
     scenes.extend(ends(place));
     scenes.extend(refusals(place));
     scenes
@@ -73,6 +74,24 @@ fn pages(place: &Place) -> Vec<Scene> {
     ]
 }
 
+/// look: nobody holds the file, or the last client does, with all its entries.
+fn looks(place: &Place) -> Vec<Scene> {
+    let &(file, page) = place.writes.last().expect("a write");
+    let (old_file, old_page) = place.unwritten();
+    let pages = place.shape[2 * usize::from(file) - 2];
+    let free = Stage::format(place.sectors, place.clients, &place.shape);
+    let open = place.written(1, &place.writes);
+    let mut decided = open.clone();
+    decided.decide(place.clients);
+    vec![
+        Scene::new("look, nobody holds it", &free, stage::look(file, page)),
+        Scene::new("look, record open", &open, stage::look(file, page)),
+        Scene::new("look, decided, last entry", &decided, stage::look(file, page)),
+        Scene::new("look, decided, by the map", &decided, stage::look(old_file, old_page)),
+        Scene::new("look, refused by 9", &decided, stage::look(file, pages)),
+    ]
+}
+
 /// commit, abort and list.
 fn ends(place: &Place) -> Vec<Scene> {
     let last = place.clients;
@@ -111,9 +130,9 @@ mod tests {
     /// What the name says of the reply: done, cut, refused, or a sector.
     fn kind(scene: &Scene) -> u8 {
         match scene.call.function {
-            Function::Read => 3,
             _ if scene.name.contains("refused") => 2,
             _ if scene.name.contains("cut") => 1,
+            Function::Read | Function::Look => 3,
             _ => 0,
         }
     }
@@ -126,6 +145,14 @@ mod tests {
         assert_eq!(small, (1, [0b11, 0, 0, 0]));
         assert_eq!(middle, (7, [0b1111, 0b1111, 0b1111, 0]));
         assert_eq!(largest, (7, [0xFFFF, 0xFFFF, 0xFFFF, 0]));
+    }
+
+    /// A page by the map would be measured for one that an entry has.
+    #[test]
+    fn looks_find_what_the_names_say() {
+        let numbers = |place: &Place| looks(place).iter().map(|scene| scene.reply().number()).collect::<Vec<_>>();
+        assert_eq!(numbers(&small()), [8, 8, 9, 5, 9]);
+        assert_eq!(numbers(&largest()), [642, 642, 762, 700, 9]);
     }
 
     /// A call that is refused by mistake would be measured for a done one.

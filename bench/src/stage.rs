@@ -68,6 +68,11 @@ pub fn format(clients: u8, shape: &[u8]) -> Call {
     Call::new(Function::Format, vec![Argument::Byte(clients), Argument::Bytes(shape.to_vec())])
 }
 
+/// It takes no session.
+pub fn look(file: u8, page: u8) -> Call {
+    Call::new(Function::Look, vec![Argument::Byte(file), Argument::Byte(page)])
+}
+
 /// A write of bytes that differ from page to page.
 pub fn write(session: RawSession, client: u8, file: u8, page: u8) -> Call {
     let bytes = (0..=255).map(|at: u8| at ^ page.wrapping_mul(29) ^ file).collect();
