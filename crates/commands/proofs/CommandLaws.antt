@@ -41,9 +41,9 @@ module _ (v w : Volume) (s g : Session) (m : Model) (p : Performed) where
       })
 
 -- A question leaves what it finds.
-pub performed-query : (v : Volume) (s g : Session) (m : Model) (crash : Bool) (q : Query) (x : Step) (o : QueryOutcome)
-    → x ≡ asks crash q → g ≡ given crash s → queryAnswerOf o ≡ query v g q
-    → IsPerformed (runOf v s m) x (record { told = Told.Query o; session = s }) v
+pub performed-query : (v : Volume) (s g : Session) (m : Model) (p : Performed) (crash : Bool) (q : Query) (x : Step) (o : QueryOutcome)
+    → x ≡ asks crash q → g ≡ given crash s → queryAnswerOf o ≡ query v g q → p ≡ record { told = Told.Query o; session = s }
+    → IsPerformed (runOf v s m) x p v
 unfolding stepped
-performed-query v s g m crash q x o d e h =
-    rw d (record { volume = refl; session = refl; answer = ap ofQuery (rw e at h) })
+performed-query v s g m p crash q x o d e h t =
+    rw (d, t) (record { volume = refl; session = refl; answer = ap ofQuery (rw e at h) })

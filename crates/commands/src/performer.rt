@@ -88,7 +88,8 @@ pub fn is_look(a: Action) -> bool
 pub fn page<'a>(v: &'a [u8], s: Session, c: Command) -> &'a [u8]
     ensures { λ r. ⌜ now r ≡ queryPart (now (v .entry)) (given (c .crash) s) (queryOf c) ⌝ }
 {
-    if is_look(c.action) {
+    let a = c.action;
+    if is_look(a) {
         return calls::look_page(v, c.file, c.page);
     }
     calls::page(v, given_session(s, c.crash), c.client, c.file, c.page)

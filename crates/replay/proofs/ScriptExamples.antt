@@ -12,7 +12,7 @@ use Rattle.lists.specs.Lists.{from}
 use Rattle.sector.specs.Contents.{Bytes, Table}
 use Rattle.sector.specs.Sectors.{byte, padded}
 use Rattle.volume.specs.Volumes.{Volume}
-use Rattle.rules.specs.Plans.{begin, openFile, openRead, write, commit, abort, readPage}
+use Rattle.rules.specs.Plans.{begin, openFile, openRead, write, commit, abort, readPage, lookPage}
 use Rattle.atomicity.specs.Model.{newModel}
 use Rattle.atomicity.specs.Runs.{Step, calls, asks}
 use Rattle.atomicity.specs.AllOrNone.{PagesAgree}
@@ -25,7 +25,8 @@ use Rattle.replay.specs.Replays.{ran, hasRoom, AllOrNoneFor, WhereRun}
 
 -- ------------------------------------------------------------------ scripts
 -- Begin 1 with a budget of 255; the supply fails, and client 2 opens file 3 with a budget of 4; a write of three bytes; commit,
--- abort, client 3 opens file 4 for reading with a budget of 9, two reads, by 5 and by 255; and a begin that isn't whole.
+-- abort, client 3 opens file 4 for reading with a budget of 9, two reads, by 5 and by 255, and a look, whose client says nothing; and a
+-- begin that isn't whole.
 abbrev script : Bytes
 script =
     0 ∷ 0 ∷ 1 ∷ 0 ∷ 0 ∷ 255 ∷ 0 ∷ 0
@@ -36,6 +37,7 @@ script =
     ∷ 6 ∷ 0 ∷ 3 ∷ 4 ∷ 0 ∷ 9 ∷ 0 ∷ 0
     ∷ 5 ∷ 2 ∷ 1 ∷ 2 ∷ 5 ∷ 0 ∷ 0 ∷ 0
     ∷ 255 ∷ 0 ∷ 3 ∷ 4 ∷ 6 ∷ 0 ∷ 0 ∷ 0
+    ∷ 7 ∷ 0 ∷ 9 ∷ 2 ∷ 8 ∷ 0 ∷ 0 ∷ 0
     ∷ 0 ∷ 0 ∷ 1 ∷ 0 ∷ 0 ∷ 255 ∷ 0
     ∷ []
 
@@ -49,14 +51,15 @@ itsSteps =
     ∷ calls false (openRead 3 4) 9
     ∷ asks true (readPage 1 2 5)
     ∷ asks false (readPage 3 4 6)
+    ∷ asks false (lookPage 2 8)
     ∷ []
 
 script-steps : steps script ≡ itsSteps
 unfolding stepsFrom stepIn commandIn stepOf isWhole
 script-steps = refl
 
--- 5 and every byte above 6 is a read.
-reads : map actionOf (5 ∷ from 7 249) ≡ replicate 250 Action.Read
+-- 5 and every byte above 7 is a read.
+reads : map actionOf (5 ∷ from 8 248) ≡ replicate 249 Action.Read
 reads = refl
 
 -- The length of the data, low byte first: a page is 256 bytes.
@@ -69,12 +72,12 @@ cut-step : steps (2 ∷ 0 ∷ 1 ∷ 1 ∷ 0 ∷ 255 ∷ 3 ∷ 0 ∷ 0xAA ∷ 0xB
 unfolding stepsFrom stepIn commandIn stepOf isWhole
 cut-step = refl
 
--- Twelve bytes for each of the six calls, 524 for each read: 1,120 are enough, 1,119 are not.
-enough-room : hasRoom script 1120 ≡ true
+-- Twelve bytes for each of the six calls, 524 for each question: 1,644 are enough, 1,643 are not.
+enough-room : hasRoom script 1644 ≡ true
 unfolding hasRoom stepsFrom stepIn commandIn stepOf isWhole
 enough-room = refl
 
-too-little-room : hasRoom script 1119 ≡ false
+too-little-room : hasRoom script 1643 ≡ false
 unfolding hasRoom stepsFrom stepIn commandIn stepOf isWhole
 too-little-room = refl
 

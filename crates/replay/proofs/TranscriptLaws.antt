@@ -17,7 +17,7 @@ use Rattle.volume.specs.Volumes.{Volume}
 use Rattle.sector.proofs.CodecLaws.{padded-length}
 use Rattle.sector.proofs.SectorLaws.{sector-length}
 use Rattle.calls.proofs.PageLaws.{Inside, query-inside}
-use Rattle.rules.specs.Plans.{Query}
+use Rattle.rules.specs.Plans.{Call, Query}
 use Rattle.rules.specs.Calls.{query, partOf, queryPart}
 use Rattle.text.specs.Writes.{Wrote, atFront}
 use Rattle.atomicity.specs.Model.{Model}
@@ -123,21 +123,33 @@ pub record IsNoted (r : Configuration) (x : Step) (w : Volume) (s : Session) (c 
   pub answer : IsAnswer w s c (p .told)
 
 module _ (v w : Volume) (s : Session) (m : Model) (c : Command) (d : Bytes) (p : Performed) where
-  by-action : (a : Action) → IsPerformed (runOf v s m) (stepBy a c d) p w → IsNoted (runOf v s m) (stepBy a c d) w s c p
+  call-noted : (x : Call) (budget : ℕ) → IsPerformed (runOf v s m) (calls (c .crash) x budget) p w
+      → IsNoted (runOf v s m) (calls (c .crash) x budget) w s c p
   unfolding stepped
-  by-action Action.Begin h = record { event = noted-call w s c (p .told) (p .session) _ (h .answer) ∙ rw (h .session); answer = any-call w s c (p .told) _ (h .answer) }
-  by-action Action.Open h = record { event = noted-call w s c (p .told) (p .session) _ (h .answer) ∙ rw (h .session); answer = any-call w s c (p .told) _ (h .answer) }
-  by-action Action.OpenRead h = record { event = noted-call w s c (p .told) (p .session) _ (h .answer) ∙ rw (h .session); answer = any-call w s c (p .told) _ (h .answer) }
-  by-action Action.Write h = record { event = noted-call w s c (p .told) (p .session) _ (h .answer) ∙ rw (h .session); answer = any-call w s c (p .told) _ (h .answer) }
-  by-action Action.Commit h = record { event = noted-call w s c (p .told) (p .session) _ (h .answer) ∙ rw (h .session); answer = any-call w s c (p .told) _ (h .answer) }
-  by-action Action.Abort h = record { event = noted-call w s c (p .told) (p .session) _ (h .answer) ∙ rw (h .session); answer = any-call w s c (p .told) _ (h .answer) }
-  by-action Action.Read h = record {
-    event = noted-query w s c (p .told) (p .session) _ (h .answer) ∙ rw (h .session, h .volume);
-    answer = is-answer w s c (p .told) (rw (h .volume) (h .answer));
+  call-noted x budget h = record {
+    event = noted-call w s c (p .told) (p .session) _ (h .answer) ∙ rw (h .session);
+    answer = any-call w s c (p .told) _ (h .answer);
   }
 
+  query-noted : (q : Query) → queryOf c ≡ q → IsPerformed (runOf v s m) (asks (c .crash) q) p w → IsNoted (runOf v s m) (asks (c .crash) q) w s c p
+  unfolding stepped
+  query-noted q is h = record {
+    event = noted-query w s c (p .told) (p .session) _ (h .answer) ∙ rw (h .session, h .volume, is);
+    answer = is-answer w s c (p .told) (rw (h .volume, is) (h .answer));
+  }
+
+  by-action : (a : Action) → c .action ≡ a → IsPerformed (runOf v s m) (stepBy a c d) p w → IsNoted (runOf v s m) (stepBy a c d) w s c p
+  by-action Action.Begin e h = call-noted _ _ h
+  by-action Action.Open e h = call-noted _ _ h
+  by-action Action.OpenRead e h = call-noted _ _ h
+  by-action Action.Write e h = call-noted _ _ h
+  by-action Action.Commit e h = call-noted _ _ h
+  by-action Action.Abort e h = call-noted _ _ h
+  by-action Action.Read e h = query-noted _ (rw e) h
+  by-action Action.Look e h = query-noted _ (rw e) h
+
   pub is-noted : IsPerformed (runOf v s m) (stepOf c d) p w → IsNoted (runOf v s m) (stepOf c d) w s c p
-  is-noted h = rw (step-by c d (c .action) refl) (by-action (c .action) (rw (step-by c d (c .action) refl) at h))
+  is-noted h = rw (step-by c d (c .action) refl) (by-action (c .action) refl (rw (step-by c d (c .action) refl) at h))
 
 -- ------------------------------------------------------------------ entries in code
 -- What was told, and the room that its entry takes.
@@ -164,6 +176,7 @@ by-length Action.Write c d = refl
 by-length Action.Commit c d = refl
 by-length Action.Abort c d = refl
 by-length Action.Read c d = refl
+by-length Action.Look c d = refl
 
 -- The entry of the step at the front, by its first byte.
 pub step-entry : (l : Bytes) → actionLength (actionOf (byte l 0)) ≡ entryLength (stepIn l)

@@ -1,8 +1,9 @@
 -- `perform` meets its contract, by the action of the command.
+use mathlib.Core.Path.{sym, _∙_}
 use borrow.Author.Needs.{needs}
-use Rattle.rules.specs.Plans.{begin, openFile, openRead, write, commit, abort}
+use Rattle.rules.specs.Plans.{begin, openFile, openRead, write, commit, abort, readPage, lookPage}
 use Rattle.commands.specs.declared.Action.{Action}
-use Rattle.commands.specs.Commands.{queryOf}
+use Rattle.rules.proofs.CallLaws.{look-asked}
 use Rattle.commands.proofs.CommandLaws.{step-by, performed-call, performed-query}
 use Rattle.commands.proofs.performer.perform.Statement.{statement}
 use Rattle.commands.proofs.performer.perform.Tie as tie
@@ -57,12 +58,21 @@ returns-6 c =
 
 returns-7 : tie.Need-returns-7
 returns-7 c =
-    let t = c .before .before in
+    let b = c .before in
+    let t = b .before .before in
     let g = t .before .before in
     let a = g .before .before .before .args in
-    λ m. performed-query (a .v .now) (a .s) (g .given-session .result) m (a .c .crash) (queryOf (a .c)) _ (c .read .result) (step-by (a .c) (a .bytes .now) Action.Read (t .enum-told7 .given .1)) (g .given-session .ensures) (c .read .ensures)
+    λ m. performed-query (a .v .now) (a .s) (g .given-session .result) m (c .asked .result) (a .c .crash) (readPage (a .c .client) (a .c .file) (a .c .page)) _ (b .read .result) (step-by (a .c) (a .bytes .now) Action.Read (t .enum-told7 .given .1)) (g .given-session .ensures) (b .read .ensures) (c .asked .ensures)
+
+returns-8 : tie.Need-returns-8
+returns-8 c =
+    let b = c .before in
+    let t = b .before .before in
+    let g = t .before .before in
+    let a = g .before .before .before .args in
+    λ m. performed-query (a .v .now) (a .s) (g .given-session .result) m (c .asked2 .result) (a .c .crash) (lookPage (a .c .file) (a .c .page)) _ (b .look .result) (step-by (a .c) (a .bytes .now) Action.Look (t .enum-told8 .given .1)) (g .given-session .ensures) (b .look .ensures ∙ sym (look-asked (a .v .now) (g .given-session .result) (a .c .file) (a .c .page))) (c .asked2 .ensures)
 
 pub perform-spec : {M : Type 1} → statement M
-perform-spec = tie.close (tie.spec (λ c κs. search needs) (λ c. search needs) (λ c κs. search needs) (λ c κs. search needs) (λ c. search needs) (λ c κs. search needs) (λ c κs. search needs) (λ c. search needs) (λ c κs. search needs) (λ c κs. search needs) (λ c. search needs) (λ c κs. search needs) (λ c κs. search needs) (λ c. search needs) (λ c κs. search needs) (λ c κs. search needs) (λ c. search needs) (λ c κs. search needs) (λ c κs. search needs) (λ c. search needs) (λ c κs. search needs)
+perform-spec = tie.close (tie.spec (λ c κs. search needs) (λ c. search needs) (λ c κs. search needs) (λ c κs. search needs) (λ c. search needs) (λ c κs. search needs) (λ c κs. search needs) (λ c. search needs) (λ c κs. search needs) (λ c κs. search needs) (λ c. search needs) (λ c κs. search needs) (λ c κs. search needs) (λ c. search needs) (λ c κs. search needs) (λ c κs. search needs) (λ c. search needs) (λ c κs. search needs) (λ c κs. search needs) (λ c. search needs) (λ c κs. search needs) (λ c κs. search needs) (λ c. search needs) (λ c κs. search needs) (λ c κs. search needs)
     (λ c. search needs) returns (λ c. search needs) returns-2 (λ c. search needs) returns-3 (λ c. search needs)
-    returns-4 (λ c. search needs) returns-5 (λ c. search needs) returns-6 (λ c. search needs) returns-7)
+    returns-4 (λ c. search needs) returns-5 (λ c. search needs) returns-6 (λ c. search needs) returns-7 (λ c. search needs) returns-8)
