@@ -1,18 +1,20 @@
--- Examples of `Calls`: how a call ends by its budget and by its refusal, which sector a read finds, and which part of the
--- volume it hands out. The checker evaluates both sides.
+-- Examples of `Calls`: how a call ends by its budget and by its refusal, which sector a read and a look find, and which part of the
+-- volume they hand out. The checker evaluates both sides.
 use mathlib.Core.Path.{_≡_, refl}
 use mathlib.Core.List.{List, [], _∷_, _++_, map}
 use Prim.Native.Nat.{ℕ}
 use lib.ListN.{replicate, set}
 use Rattle.interface.specs.declared.Session.{Session}
-use Rattle.interface.specs.Answers.{newSession, Answer, done, crashed, refused, found, queryRefused}
+use Rattle.interface.specs.Answers.{newSession, Answer, done, crashed, refused, QueryAnswer, found, queryRefused}
 use Rattle.lists.specs.Lists.{all, first}
 use Rattle.byteset.specs.Bits.{withBit}
 use Rattle.sector.specs.Contents.{Bytes, idleRecord, openRecord}
+use Rattle.sector.specs.Entries.{redone}
 use Rattle.sector.specs.Sectors.{sector, storeAt, padded}
 use Rattle.sector.specs.Encoding.{fileBytes, encodeTable, entryBytes, encodeRecord, encodeHeader}
 use Rattle.sector.specs.Decoding.{decodeFiles, decodeTable, decodeEntries, decodeRecord, decodeHeader}
 use Rattle.volume.specs.Places.{sectorAfter}
+use Rattle.volume.specs.Views.{View}
 use Rattle.volume.specs.Volumes.{Volume, tableOf, recordIn, headerIn, view}
 use Rattle.volume.specs.Stores.{Store, cutAt, allStores}
 use Rattle.volume.specs.Lawful.{lawful}
@@ -20,10 +22,10 @@ use Rattle.volume.specs.Sound.{encoded, canonical, sound}
 use Rattle.volume.specs.Format.{repeated, newFiles, newVolume}
 use Rattle.rules.specs.Sessions.{isReading, markFits, clientHoldsFit, sessionFits}
 use Rattle.rules.specs.Recovery.{heldFiles, recovery}
-use Rattle.rules.specs.Plans.{Call, begin, openRead, commit, abort, readPage, beginPlan, plan}
+use Rattle.rules.specs.Plans.{Call, begin, openRead, commit, abort, readPage, lookPage, beginPlan, plan}
 use Rattle.rules.specs.Refusals.{tests, queryTests}
-use Rattle.rules.specs.Calls.{After, executed, callBy, call, queryBy, query, partOf, queryPart}
-use Rattle.rules.proofs.ExampleViews.{reads, active1, active2, active12, entry, rec, header, at}
+use Rattle.rules.specs.Calls.{After, executed, callBy, call, queryBy, query, partOf, queryPart, look, lookPart}
+use Rattle.rules.proofs.ExampleViews.{reads, active1, active2, active12, entry, rec, header, seen, records, at}
 
 -- The bytes of one sector.
 abbrev page : ℕ → Bytes
@@ -68,6 +70,27 @@ sectors-read : queryBy 0 (at 1) (readPage 1 1 1) ∷ queryBy 0 (at 1) (readPage 
 unfolding sectorAfter
 sectors-read = refl
 
+-- ------------------------------------------------------------------ look
+-- A look's sectors: the three pages of file 1, then the page of file 2.
+abbrev looked : View → List QueryAnswer
+looked a = map (λ p. queryBy 0 a (lookPage 1 p)) (0 ∷ 1 ∷ 2 ∷ []) ++ (queryBy 0 a (lookPage 2 0) ∷ [])
+
+-- "the page of the decided content": client 1, which holds both files, is open, so by the maps; it is decided, so page 1 of file 1 and
+-- the page of file 2 by its entries; the header of file 1 names client 2, which is decided, that of file 2 nobody; nobody holds file 1,
+-- and client 3, which is idle, file 2, so by the maps, whatever is decided. Last, a refusal.
+sectors-looked : map looked
+    (at 1 ∷ at 2 ∷ seen (records 1) (header 2 (1 ∷ 5 ∷ 2 ∷ [])) (header 0 (0 ∷ [])) ∷ seen (records 2) (header 0 (1 ∷ 5 ∷ 2 ∷ [])) (header 3 (0 ∷ [])) ∷ [])
+    ++ ((queryBy 9 (at 1) (lookPage 1 3) ∷ []) ∷ [])
+    ≡ (found 7 ∷ found 11 ∷ found 8 ∷ found 13 ∷ [])
+    ∷ (found 7 ∷ found 10 ∷ found 8 ∷ found 15 ∷ [])
+    ∷ (found 6 ∷ found 9 ∷ found 8 ∷ found 13 ∷ [])
+    ∷ (found 7 ∷ found 11 ∷ found 8 ∷ found 13 ∷ [])
+    ∷ (queryRefused 9 ∷ [])
+    ∷ []
+unfolding sectorAfter redone
+sectors-looked = refl
+
+-- ------------------------------------------------------------------ parts
 -- "hands back that part of the lent array itself, 256 bytes, or an empty part on a refusal": the second of three sectors.
 parts : map (partOf (page 1 ++ (page 2 ++ page 3))) (found 1 ∷ queryRefused 1 ∷ []) ≡ page 2 ∷ [] ∷ []
 unfolding sector
@@ -90,6 +113,26 @@ parts-read : map (λ p. queryPart tiny active1 (readPage 1 1 p)) (0 ∷ 1 ∷ 2 
     ≡ page 5 ∷ page 4 ∷ [] ∷ [] ∷ [] ∷ []
 unfolding query queryTests first sessionFits markFits clientHoldsFit isReading sound lawful canonical encoded all view tableOf recordIn headerIn decodeTable decodeFiles decodeRecord decodeEntries decodeHeader sector cutAt storeAt newVolume newFiles repeated sectorAfter encodeTable fileBytes encodeRecord entryBytes encodeHeader padded
 parts-read = refl
+
+-- That record decided.
+abbrev decidedTiny : Volume
+decidedTiny = storeAt tiny 1 (encodeRecord (rec 2 (entry 1 0 2 ∷ [])))
+
+-- Looks at pages 0 and 1 while client 1 is open, by the map; decided, by its entry and by the map. Refused: no page 2, whose file there
+-- is; no file 0 and no file 2, whatever the page; an array that isn't sound, whatever file and page.
+abbrev lookedAt : Volume → List (QueryAnswer × Bytes)
+lookedAt v = map (λ (x : ℕ × ℕ). (look v (x .0) (x .1), lookPart v (x .0) (x .1))) ((1, 0) ∷ (1, 1) ∷ (1, 2) ∷ (0, 0) ∷ (2, 0) ∷ (2, 9) ∷ [])
+
+abbrev refusedAs : ℕ → QueryAnswer × Bytes
+refusedAs n = (queryRefused n, [])
+
+looks-found : map lookedAt (tiny ∷ decidedTiny ∷ set tiny 0 0 ∷ [])
+    ≡ ((found 3, page 3) ∷ (found 4, page 4) ∷ refusedAs 9 ∷ replicate 3 (refusedAs 6))
+    ∷ ((found 5, page 5) ∷ (found 4, page 4) ∷ refusedAs 9 ∷ replicate 3 (refusedAs 6))
+    ∷ replicate 6 (refusedAs 1)
+    ∷ []
+unfolding query queryTests first redone sound lawful canonical encoded all view tableOf recordIn headerIn decodeTable decodeFiles decodeRecord decodeEntries decodeHeader sector cutAt storeAt newVolume newFiles repeated sectorAfter encodeTable fileBytes encodeRecord entryBytes encodeHeader padded
+looks-found = refl
 
 -- With holder 0, and with an idle record as well.
 abbrev half : Volume

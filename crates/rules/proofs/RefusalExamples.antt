@@ -14,7 +14,7 @@ use Rattle.volume.specs.Places.{sectorAfter}
 use Rattle.volume.specs.Views.{View, noHeader}
 use Rattle.volume.specs.Lawful.{lawful}
 use Rattle.rules.specs.Sessions.{isReading, isReadByOther, markFits, holdFits, clientHoldsFit, sessionFits}
-use Rattle.rules.specs.Plans.{Call, begin, openFile, openRead, write, commit, abort, readPage, freeSlots}
+use Rattle.rules.specs.Plans.{Call, begin, openFile, openRead, write, commit, abort, readPage, lookPage, freeSlots}
 use Rattle.rules.specs.Refusals.{heldByOther, pageMissing, isNewPage, tests, queryTests}
 use Rattle.rules.proofs.ExampleViews.{marks, reads, active1, active2, active3, active12, entry, rec, header, viewOf, seen, records, at}
 
@@ -47,9 +47,10 @@ applying xs = numbers (filter (λ x. x .1) xs)
 -- "The lowest number that applies is given": each list rises, but for 16, "tested after 8 and before 9". "Begin, commit and abort
 -- have no file or page."
 numbers-tested : (ok : Bool) (a : View) (s : Session) (k f p : ℕ) (d : Bytes)
-    → numbers (queryTests ok a s (readPage k f p))
-    ∷ map (λ c. numbers (tests ok a s c)) (write k f p d ∷ openFile k f ∷ openRead k f ∷ begin k ∷ commit k ∷ abort k ∷ [])
+    → map (λ q. numbers (queryTests ok a s q)) (readPage k f p ∷ lookPage f p ∷ [])
+    ++ map (λ c. numbers (tests ok a s c)) (write k f p d ∷ openFile k f ∷ openRead k f ∷ begin k ∷ commit k ∷ abort k ∷ [])
     ≡ (1 ∷ 2 ∷ 3 ∷ 5 ∷ 6 ∷ 8 ∷ 9 ∷ [])
+    ∷ (1 ∷ 6 ∷ 9 ∷ [])
     ∷ (1 ∷ 2 ∷ 3 ∷ 5 ∷ 6 ∷ 8 ∷ 16 ∷ 9 ∷ 10 ∷ 11 ∷ 12 ∷ [])
     ∷ (1 ∷ 2 ∷ 3 ∷ 5 ∷ 6 ∷ 7 ∷ [])
     ∷ (1 ∷ 2 ∷ 3 ∷ 5 ∷ 6 ∷ 7 ∷ [])
@@ -128,6 +129,18 @@ read-refused : applying (queryTests true (at 1) active1 (readPage 1 3 0)) ∷ ap
     ≡ (6 ∷ 8 ∷ 9 ∷ []) ∷ (8 ∷ []) ∷ (9 ∷ []) ∷ []
 unfolding queryTests sessionFits markFits clientHoldsFit isReading all
 read-refused = refl
+
+-- "a look tests 1, 6 and 9": each file's last page and the next one, file 0, whose pages are read as file 1's, and file 3, which has no
+-- page; on a volume that is sound and on one that isn't. Client 1 holds both files and is open. No session is asked for: with client 2's
+-- mark, which doesn't fit, and reading holds of everything it is the same.
+abbrev looking : (ok : Bool) → Session → List (List ℕ)
+looking ok s = map (λ (x : ℕ × ℕ). applying (queryTests ok (at 1) s (lookPage (x .0) (x .1)))) ((1, 2) ∷ (1, 3) ∷ (2, 0) ∷ (2, 1) ∷ (0, 0) ∷ (3, 0) ∷ [])
+
+look-refused : map (looking true) (newSession ∷ active1 ∷ reads active12 (65535 ∷ 65535 ∷ 0 ∷ 0 ∷ []) ∷ []) ++ (looking false newSession ∷ [])
+    ≡ replicate 3 ([] ∷ (9 ∷ []) ∷ [] ∷ (9 ∷ []) ∷ (6 ∷ []) ∷ (6 ∷ 9 ∷ []) ∷ [])
+    ++ (((1 ∷ []) ∷ (1 ∷ 9 ∷ []) ∷ (1 ∷ []) ∷ (1 ∷ 9 ∷ []) ∷ (1 ∷ 6 ∷ []) ∷ (1 ∷ 6 ∷ 9 ∷ []) ∷ []) ∷ [])
+unfolding queryTests
+look-refused = refl
 
 -- ------------------------------------------------------------------ reading holds
 -- Clients 1, 2 and 3 have begun, and nobody holds a file for writing. Clients 1 and 2 read file 1, client 3 reads file 2.
