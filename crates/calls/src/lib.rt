@@ -117,7 +117,7 @@ pub fn page(volume: &[u8], session: Session, client: u8, file: u8, page: u8) -> 
 // The sector that has the page of the decided content, for anyone who looks. Ruled out: an answer by the map alone where the
 // holder's record is decided (`slots/must-fail/look_by_map_alone`), or by the entries where it is only open
 // (`slots/must-fail/look_into_an_open_record`); a refusal because a client holds the file
-// (`checks/must-fail/look_at_held_refused`).
+// (`rules/must-fail/look_blocked_by_client`).
 pub fn look(volume: &[u8], file: u8, page: u8) -> QueryOutcome
     ensures { λ r. ⌜ queryAnswerOf r ≡ Rattle.rules.specs.Calls.look (now (volume .entry)) file page ⌝ }
 {

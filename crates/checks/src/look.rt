@@ -11,7 +11,7 @@ ghost use Rattle.rules.specs.Refusals.{lookTests};
 ghost use Rattle.checks.specs.Verdicts.{numberOf};
 
 // Tests 1, 6 and 9: the volume is sound, file f exists, and it has page p. Ruled out: a file that a client holds refused
-// (`must-fail/look_at_held_refused`); a page past the last one accepted.
+// (`rules/must-fail/look_blocked_by_client`); another number than the table's (`must-fail/look_at_no_file`).
 pub fn check_look(v: &[u8], f: u8, p: u8) -> Verdict
     ensures { λ r. ⌜ numberOf r ≡ first (lookTests (sound (now (v .entry))) (view (now (v .entry))) f p) ⌝ }
 {

@@ -127,7 +127,7 @@ pub fn read_slot(v: &[u8], k: u8, f: u8, p: u8) -> u8
 
 // The slot that a look at page p of file f takes: the one that its holder's record has for the page, if that is decided, else
 // by the map. Ruled out: the map alone (`must-fail/look_by_map_alone`); the entries of a record that is only open
-// (`must-fail/look_into_an_open_record`), or of one that the header doesn't name (`must-fail/look_into_another_record`).
+// (`must-fail/look_into_an_open_record`), or of one that the header doesn't name (`rules/must-fail/look_into_another_record`).
 pub fn decided_slot(v: &[u8], f: u8, p: u8) -> u8
     requires { ⌜ (sound (now v) ≡ true) × IsPage (view (now v) .table) f p ⌝ }
     ensures { λ r. ⌜ r ≡ decidedSlot (view (now (v .entry))) f p ⌝ }

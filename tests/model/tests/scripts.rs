@@ -21,7 +21,7 @@ fn output_of(script: &[u8]) -> String {
 #[test]
 fn examples() {
     let folder = Path::new(env!("CARGO_MANIFEST_DIR")).join("../../examples/scripts");
-    let names = (1..=11).map(|number| format!("e{number}")).chain(["rewrites", "readers"].map(String::from));
+    let names = (1..=11).map(|number| format!("e{number}")).chain(["rewrites", "readers", "looks"].map(String::from));
     for name in names {
         let script = fs::read(folder.join(format!("{name}.txt"))).unwrap();
         let expected = fs::read_to_string(folder.join(format!("{name}.out"))).unwrap();
