@@ -25,13 +25,14 @@ use Rattle.volume.specs.Format.{lengthFits, shapeFits, endFits, formatTests, re
 use Rattle.rules.specs.Sessions.{isReading, isReadByOther, holdsEither, markFits, holdFits, clientHoldsFit, sessionFits}
 use Rattle.rules.specs.Recovery.{heldFiles, recovery}
 use Rattle.rules.specs.Plans.{Call, begin, openFile, openRead, commit, readPage, lookPage, beginPlan, openPlan, openReadPlan, plan}
+use Rattle.rules.specs.Content.{decidedContent}
 use Rattle.rules.specs.Refusals.{tests, queryTests}
 use Rattle.rules.specs.Calls.{After, call, query, queryPart, look, lookPart}
 use Rattle.rules.proofs.ExampleViews.{entry, rec, header, active1, active12}
 use Rattle.atomicity.specs.Model.{newModel, shown, modelCall}
 use Rattle.atomicity.specs.Runs.{Step, calls, asks, Configuration, started, stepped, ranOver}
 use Rattle.atomicity.specs.Readers.{Finds}
-use Rattle.atomicity.specs.Looks.{FindsTheSame, WhereDone, AsOpenedBy, LooksAsOpened, LooksFind, storesCounted, storesIn, WithoutStore, LookShows, StepShows, AllShow, LooksTogether}
+use Rattle.atomicity.specs.Looks.{FindsTheSame, WhereDone, AsOpenedBy, LooksAsOpened, LooksDecided, LooksFind, storesCounted, storesIn, WithoutStore, LookShows, StepShows, AllShow, LooksTogether}
 use Rattle.atomicity.proofs.StatementExamples.{shape, table, fresh, page, pending7, run}
 
 -- Both clients have begun. Client 2 holds file 1 and has written sevens for its page 0, in slot 2, which is sector 6. Its record is in
@@ -93,6 +94,11 @@ other-part h = false≢true (ap startsWith0 (h .1))
 other-answer : FindsTheSame (half 1) (left (storeAt (half 1) 6 (page 0))) 2 1 0 → ⊥
 unfolding query queryTests first redone sessionFits markFits clientHoldsFit holdFits isReading sound lawful canonical encoded all view tableOf recordIn headerIn slotIn decodeTable decodeFiles decodeRecord decodeEntries decodeHeader sector storeAt newVolume newFiles repeated sectorAfter encodeTable fileBytes encodeRecord entryBytes encodeHeader padded
 other-answer h = false≢true (ap (answers 4) (h .0))
+
+-- It is the look before the call that is compared, and client k's read: client 2 reads its own page where the look found it decided.
+look-before : FindsTheSame (half 2) (left (half 1)) 2 1 0
+unfolding query queryTests first redone sessionFits markFits clientHoldsFit holdFits isReading sound lawful canonical encoded all view tableOf recordIn headerIn slotIn decodeTable decodeFiles decodeRecord decodeEntries decodeHeader sector storeAt newVolume newFiles repeated sectorAfter encodeTable fileBytes encodeRecord entryBytes encodeHeader padded
+look-before = (refl, refl)
 
 finds-both : (v : Volume) (x : After) (k f p : ℕ) → FindsTheSame v x k f p
     → (query (x .volume) (x .session) (readPage k f p) ≡ look v f p) × (queryPart (x .volume) (x .session) (readPage k f p) ≡ lookPart v f p)
@@ -192,6 +198,10 @@ as-opened-here : LooksAsOpened → (s : Session) (k f p budget : ℕ) → length
     → holdsEither (view (half 2)) s k f ≡ false
     → AsOpenedBy (openFile k f) (half 2) s k f p budget × AsOpenedBy (openRead k f) (half 2) s k f p budget
 as-opened-here h = h (half 2)
+
+decided-here : LooksDecided → (f p : ℕ) → sound (half 2) ≡ true → IsPage (view (half 2) .table) f p
+    → Finds (half 2) (decidedContent (view (half 2)) f p) (look (half 2) f p) × (lookPart (half 2) f p ≡ decidedContent (view (half 2)) f p)
+decided-here h = h (half 2)
 
 find-here : LooksFind → (steps : List Step) (f p : ℕ) → let r = ranOver (started fresh) steps in
     IsPage table f p → Finds (r .volume) (r .model .pages f p) (look (r .volume) f p) × (lookPart (r .volume) f p ≡ r .model .pages f p)

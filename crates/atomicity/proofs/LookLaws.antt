@@ -48,7 +48,7 @@ use Rattle.atomicity.specs.Model.{Model}
 use Rattle.atomicity.specs.Runs.{Step, calls, asks, Configuration, started, given, stepped, ranOver}
 use Rattle.atomicity.specs.AllOrNone.{QueryAgrees}
 use Rattle.atomicity.specs.Readers.{Finds}
-use Rattle.atomicity.specs.Looks.{FindsTheSame, WhereDone, LooksAsOpened, LooksFind, storesCounted, storesIn, WithoutStore, LookShows, StepShows, AllShow, LooksTogether}
+use Rattle.atomicity.specs.Looks.{FindsTheSame, WhereDone, LooksAsOpened, LooksDecided, LooksFind, storesCounted, storesIn, WithoutStore, LookShows, StepShows, AllShow, LooksTogether}
 use Rattle.atomicity.proofs.KeepLaws.{Keeps}
 use Rattle.atomicity.proofs.PlanLaws.{open-along, open-read-along}
 use Rattle.atomicity.proofs.StepLaws.{left-all, query-matches}
@@ -213,6 +213,10 @@ pub looks-find-from : (v : Volume) (steps : List Step) → sound v ≡ true → 
     Finds (r .volume) (r .model .pages f p) (look (r .volume) f p) × (lookPart (r .volume) f p ≡ r .model .pages f p)
 looks-find-from v steps ok f p i =
     look-finds (ran-related (started-related v) steps) (ran-steady (startedAs v) (new-steady (fine v ok)) steps .volume) i
+
+-- At once.
+pub looks-decided : LooksDecided
+looks-decided v f p ok i = looks-find-from v [] ok f p i
 
 -- From a formatted volume.
 pub looks-find : LooksFind

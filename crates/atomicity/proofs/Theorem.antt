@@ -1,5 +1,5 @@
 -- All or none: whatever calls are made, with whatever budgets and crashes between them, the decided content of every file is
--- what the model says, and every read that isn't refused hands back what the model shows to that client.
+-- what the model says, and every read and look that isn't refused hands back what the model shows for it.
 -- It holds from any volume, session and model that are related, so from any volume with the content that it has, and from a
 -- formatted one with every page zero. Each step keeps the relation, and the relation has the claim in it.
 use mathlib.Core.Path.{_≡_, refl, ap, _∙_}

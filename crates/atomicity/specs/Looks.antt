@@ -1,7 +1,7 @@
 -- Looks, M-103: a look "finds what opening and reading would find for a kiln that doesn't hold the file yet"; looks are steps of the
 -- lists of all or none, and "looks with no store between them are all-or-none together".
 use mathlib.Core.Path.{_≡_}
-use mathlib.Core.Bool.{Bool, false}
+use mathlib.Core.Bool.{true, false}
 use mathlib.Core.List.{List, [], _∷_}
 use Prim.Native.Nat.{ℕ}
 use lib.ListN.{length}
@@ -10,10 +10,13 @@ use Rattle.interface.specs.Answers.{Answer, done, crashed, refused, QueryAnswer
 use Rattle.sector.specs.Contents.{Bytes}
 use Rattle.sector.specs.Sectors.{sector}
 use Rattle.volume.specs.Places.{IsPage}
+use Rattle.volume.specs.Views.{View}
 use Rattle.volume.specs.Volumes.{Volume, view}
+use Rattle.volume.specs.Sound.{sound}
 use Rattle.volume.specs.Format.{tableFor, format}
 use Rattle.rules.specs.Sessions.{holdsEither}
 use Rattle.rules.specs.Plans.{Call, openFile, openRead, readPage, lookPage}
+use Rattle.rules.specs.Content.{decidedContent}
 use Rattle.rules.specs.Calls.{After, call, query, queryPart, look, lookPart}
 use Rattle.atomicity.specs.Model.{Model}
 use Rattle.atomicity.specs.Runs.{Step, calls, asks, Configuration, started, given, stepped, ranOver}
@@ -32,7 +35,7 @@ WhereDone (done n) P = P
 WhereDone (crashed n) P = Unit {0}
 WhereDone (refused n) P = Unit {0}
 
--- So it is of client k's open of file f, which is c.
+-- So it is where call c is done, by which client k opens file f.
 abbrev pub AsOpenedBy : Call → Volume → Session → (client file page budget : ℕ) → Type 0
 AsOpenedBy c v s k f p budget = let x = call v s c budget in WhereDone (x .answer) (FindsTheSame v x k f p)
 
@@ -43,6 +46,14 @@ LooksAsOpened =
     (v : Volume) (s : Session) (k f p budget : ℕ) → length (s .active) ≡ 4 → length (s .reading) ≡ 4
     → holdsEither (view v) s k f ≡ false
     → AsOpenedBy (openFile k f) v s k f p budget × AsOpenedBy (openRead k f) v s k f p budget
+
+-- ------------------------------------------------------------------ the decided content
+-- "finds the page of the decided content": on any sound volume a look at a page that there is isn't refused, and the sector that it
+-- answers and the part that it hands back have that page.
+abbrev pub LooksDecided : Type 0
+LooksDecided =
+    (v : Volume) (f p : ℕ) → sound v ≡ true → IsPage (view v .table) f p
+    → Finds v (decidedContent (view v) f p) (look v f p) × (lookPart v f p ≡ decidedContent (view v) f p)
 
 -- ------------------------------------------------------------------ in the lists
 -- After any list of calls a look at a page that there is isn't refused, whoever holds what: it finds the model's page, and hands it

@@ -1,5 +1,5 @@
 -- All or none as a claim about what a list of calls said and left: the model is fed each step's arguments and what was said of
--- it, and nothing else. Every read that isn't refused shows what the model shows to that client, and the decided content of the
+-- it, and nothing else. Every read and look that isn't refused shows what the model shows for it, and the decided content of the
 -- volume that is left is the model's.
 use mathlib.Core.Path.{_≡_}
 use mathlib.Core.List.{List, [], _∷_}
@@ -43,13 +43,13 @@ abbrev pub eventsOf : Configuration → List Step → List Event
 eventsOf r [] = []
 eventsOf r (x ∷ xs) = eventOf r x ∷ eventsOf (stepped r x) xs
 
--- The model after a step: "fed each call's arguments, the volume apart, and its answer". A read changes nothing.
+-- The model after a step: "fed each call's arguments, the volume apart, and its answer". A question changes nothing.
 abbrev pub fed : Model → Session → Step → StepAnswer → Model
 fed m s (calls crash c budget) (ofCall x) = modelCall m (given crash s) c x
 fed m s (calls crash c budget) (ofQuery x) = m
 fed m s (asks crash q) x = m
 
--- A read that isn't refused shows the page in the bytes of the sector answered and in the part handed back.
+-- A question that isn't refused shows the page in the bytes of the sector answered and in the part handed back.
 abbrev pub ShowsPage : Bytes → StepAnswer → (bytes : Bytes) → (part : Bytes) → Type 0
 ShowsPage d (ofCall x) bytes part = ⊥
 ShowsPage d (ofQuery (found n)) bytes part = (bytes ≡ d) × (part ≡ d)
@@ -60,7 +60,7 @@ abbrev pub AnswersCall : StepAnswer → Type 0
 AnswersCall (ofCall x) = Unit {0}
 AnswersCall (ofQuery x) = ⊥
 
--- What is claimed of what a step said: of a question, that it shows what the model shows to that client.
+-- What is claimed of what a step said: of a question, that it shows what the model shows for it.
 abbrev pub EventAgrees : Model → Step → Event → Type 0
 EventAgrees m (calls crash c budget) e = AnswersCall (e .answer)
 EventAgrees m (asks crash q) e = ShowsPage (shown m q) (e .answer) (e .bytes) (e .part)

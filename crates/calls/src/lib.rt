@@ -131,8 +131,8 @@ pub fn look(volume: &[u8], file: u8, page: u8) -> QueryOutcome
 }
 
 // The page itself: the part of the volume that `look` names, or an empty part where it refuses. Ruled out: another page's
-// part (`must-fail/look_page_of_another`); anything but an empty part on a refusal.
-pub fn look_page(volume: &[u8], file: u8, page: u8) -> &[u8]
+// part (`must-fail/look_part_of_another`); anything but an empty part on a refusal.
+pub fn look_part(volume: &[u8], file: u8, page: u8) -> &[u8]
     ensures { λ r. ⌜ now r ≡ lookPart (now (volume .entry)) file page ⌝ }
 {
     match look(volume, file, page) {

@@ -8,7 +8,7 @@ use Rattle.script.specs.Kinds.{bytesOf}
 use Rattle.rules.specs.Plans.{begin, openFile, openRead, write, commit, abort, readPage, lookPage}
 use Rattle.atomicity.specs.Runs.{Step, calls, asks}
 use Rattle.commands.specs.declared.Action.{Action}
-use Rattle.commands.specs.Commands.{stepOf}
+use Rattle.commands.specs.Commands.{queryOf, stepOf}
 use Rattle.commands.specs.Lines.{values, lineCommand, lineStep}
 
 -- A BUDGET is the last argument. A look names no client.
@@ -32,6 +32,12 @@ with-budgets : lineStep Action.Begin (bytesOf "begin 2 4")
     ∷ []
 unfolding stepOf lineCommand values fromField
 with-budgets = refl
+
+-- The second call of a question asks the same.
+asked : map (λ a. asks false (queryOf (lineCommand a (bytesOf "x 3 5 7")))) (Action.Read ∷ Action.Look ∷ [])
+    ≡ asks false (readPage 3 5 7) ∷ asks false (lookPage 3 5) ∷ []
+unfolding lineCommand fromField
+asked = refl
 
 -- "a BUDGET left out is 255"
 without : lineStep Action.Begin (bytesOf "begin 2")

@@ -1,4 +1,4 @@
-// The lines that are no commands, and a question's second call: sessions, single bytes and whole sectors; and those that are
+// A question's second call; the lines that are no commands: sessions, single bytes and whole sectors; and those that are
 // passed over. Ruled out: a change of the byte after the last one (`must-fail/poke_past_the_end`); a sector shown that
 // the end of the volume cuts off.
 use crate::Action;

@@ -90,7 +90,7 @@ pub fn page<'a>(v: &'a [u8], s: Session, c: Command) -> &'a [u8]
 {
     let a = c.action;
     if is_look(a) {
-        return calls::look_page(v, c.file, c.page);
+        return calls::look_part(v, c.file, c.page);
     }
     calls::page(v, given_session(s, c.crash), c.client, c.file, c.page)
 }

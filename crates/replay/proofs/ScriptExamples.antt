@@ -25,8 +25,8 @@ use Rattle.replay.specs.Replays.{ran, hasRoom, AllOrNoneFor, WhereRun}
 
 -- ------------------------------------------------------------------ scripts
 -- Begin 1 with a budget of 255; the supply fails, and client 2 opens file 3 with a budget of 4; a write of three bytes; commit,
--- abort, client 3 opens file 4 for reading with a budget of 9, two reads, by 5 and by 255, and a look, whose client says nothing; and a
--- begin that isn't whole.
+-- abort, client 3 opens file 4 for reading with a budget of 9, two reads, by 5 and by 255, and after a crash a look, whose client
+-- says nothing; and a begin that isn't whole.
 abbrev script : Bytes
 script =
     0 ∷ 0 ∷ 1 ∷ 0 ∷ 0 ∷ 255 ∷ 0 ∷ 0
@@ -37,7 +37,7 @@ script =
     ∷ 6 ∷ 0 ∷ 3 ∷ 4 ∷ 0 ∷ 9 ∷ 0 ∷ 0
     ∷ 5 ∷ 2 ∷ 1 ∷ 2 ∷ 5 ∷ 0 ∷ 0 ∷ 0
     ∷ 255 ∷ 0 ∷ 3 ∷ 4 ∷ 6 ∷ 0 ∷ 0 ∷ 0
-    ∷ 7 ∷ 0 ∷ 9 ∷ 2 ∷ 8 ∷ 0 ∷ 0 ∷ 0
+    ∷ 7 ∷ 1 ∷ 9 ∷ 2 ∷ 8 ∷ 0 ∷ 0 ∷ 0
     ∷ 0 ∷ 0 ∷ 1 ∷ 0 ∷ 0 ∷ 255 ∷ 0
     ∷ []
 
@@ -51,7 +51,7 @@ itsSteps =
     ∷ calls false (openRead 3 4) 9
     ∷ asks true (readPage 1 2 5)
     ∷ asks false (readPage 3 4 6)
-    ∷ asks false (lookPage 2 8)
+    ∷ asks true (lookPage 2 8)
     ∷ []
 
 script-steps : steps script ≡ itsSteps

@@ -25,8 +25,8 @@ actionOf n =
     else if eqb n 7 then Action.Look
     else Action.Read
 
--- The command of the step at the front. `crash` other than 0: it is given a new session. A read hands back none, so a crash
--- before a read is told again before the call after it.
+-- The command of the step at the front. `crash` other than 0: it is given a new session. A question hands back none, so a crash
+-- before it is told again before the call after it.
 unfoldable pub commandIn : Bytes → Command
 commandIn l = record {
   action = actionOf (byte l 0);

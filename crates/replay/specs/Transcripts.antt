@@ -1,7 +1,7 @@
 -- Transcripts: what the steps of a script said, as bytes, an entry for each step, one after the other. An entry begins with twelve
--- bytes: 0 done, 1 cut, 2 refused or 3 a sector; the number beside it; and the session last handed back. The entry of a read or a look goes
--- on with the 256 bytes of the sector that it answered and the 256 bytes of the part that it handed back, zeros where it was refused. Numbers
--- of two bytes have the low byte first.
+-- bytes: 0 done, 1 cut, 2 refused or 3 a sector; the number beside it; and the session last handed back. A question's entry goes on
+-- with the 256 bytes of the sector that it answered and the 256 bytes of the part that it handed back, zeros where it was refused.
+-- Numbers of two bytes have the low byte first.
 use mathlib.Core.List.{List, [], _∷_, _++_}
 use Prim.Native.Nat.{ℕ, _+_}
 use lib.Dec.{eqb}

@@ -57,7 +57,7 @@ pub fn replay(v: &mut [u8], s: Session, script: &[u8], out: &mut [u8]) -> Replay
 }
 
 // Formats the array and replays the script on it. If it ran, then all or none holds: fed with the script and the
-// transcript, the model shows what every read showed, and its pages are the decided content of the volume.
+// transcript, the model shows what every read and look showed, and its pages are the decided content of the volume.
 pub fn format_and_replay(
     v: &mut [u8],
     clients: u8,

@@ -12,7 +12,7 @@ returns c =
     let l = c .before .before in
     let a = l .before .before .args in
     rw (sym (l .is-look .ensures) ∙ c .before .if1 .taken)
-    (c .look-page .ensures ∙ ap (partOf (a .v .now)) (sym (look-asked (a .v .now) (given (a .c .crash) (a .s)) (a .c .file) (a .c .page))))
+    (c .look-part .ensures ∙ ap (partOf (a .v .now)) (sym (look-asked (a .v .now) (given (a .c .crash) (a .s)) (a .c .file) (a .c .page))))
 
 returns-2 : tie.Need-returns-2
 returns-2 c =

@@ -1,12 +1,12 @@
--- `look_page` meets its contract: the part is the sector that the look names.
+-- `look_part` meets its contract: the part is the sector that the look names.
 use mathlib.Core.Path.{sym, ap, subst, _∙_}
 use borrow.Author.Needs.{needs}
 use Rattle.interface.specs.Answers.{newSession, queryAnswerOf}
 use Rattle.rules.specs.Plans.{lookPage}
 use Rattle.rules.specs.Calls.{partOf}
 use Rattle.calls.proofs.PageLaws.{Inside, query-inside}
-use Rattle.calls.proofs.look_page.Statement.{statement}
-use Rattle.calls.proofs.look_page.Tie as tie
+use Rattle.calls.proofs.look_part.Statement.{statement}
+use Rattle.calls.proofs.look_part.Tie as tie
 
 part-requires : tie.Need-part-requires
 part-requires c κs =
@@ -27,6 +27,6 @@ returns-2 c =
     let q = x .before .before in
     c .part .ensures .0 ∙ ap (partOf (q .before .before .args .volume .now)) (ap queryAnswerOf (sym (x .n .given .1)) ∙ q .look .ensures)
 
-pub look-page-spec : {M : Type 1} → statement M
-look-page-spec = tie.close (tie.spec (λ c κs. search needs) (λ c. search needs) (λ c. search needs) (λ c. search needs)
+pub look-part-spec : {M : Type 1} → statement M
+look-part-spec = tie.close (tie.spec (λ c κs. search needs) (λ c. search needs) (λ c. search needs) (λ c. search needs)
     (λ c. search needs) (λ c. search needs) (λ c. search needs) part-requires returns returns-2)
