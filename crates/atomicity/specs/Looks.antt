@@ -1,5 +1,5 @@
--- Looks, M-103: a look "finds what opening and reading would find for a kiln that doesn't hold the file yet"; looks are steps of the
--- lists of all or none, and "looks with no store between them are all-or-none together".
+-- Looks, M-103: a look "finds the page of the decided content", and "what opening and reading would find for a kiln that doesn't hold
+-- the file yet"; looks are steps of the lists of all or none, and "looks with no store between them are all-or-none together".
 use mathlib.Core.Path.{_≡_}
 use mathlib.Core.Bool.{true, false}
 use mathlib.Core.List.{List, [], _∷_}
@@ -21,6 +21,14 @@ use Rattle.rules.specs.Calls.{After, call, query, queryPart, look, lookPart}
 use Rattle.atomicity.specs.Model.{Model}
 use Rattle.atomicity.specs.Runs.{Step, calls, asks, Configuration, started, given, stepped, ranOver}
 use Rattle.atomicity.specs.Readers.{Finds}
+
+-- ------------------------------------------------------------------ the decided content
+-- "finds the page of the decided content": on any sound volume a look at a page that there is isn't refused, and the sector that it
+-- answers and the part that it hands back have that page.
+abbrev pub LooksDecided : Type 0
+LooksDecided =
+    (v : Volume) (f p : ℕ) → sound v ≡ true → IsPage (view v .table) f p
+    → Finds v (decidedContent (view v) f p) (look v f p) × (lookPart v f p ≡ decidedContent (view v) f p)
 
 -- ------------------------------------------------------------------ as opened
 -- Client k's read after a call that left x answers what the look before the call answered, and hands back the same part.
@@ -46,14 +54,6 @@ LooksAsOpened =
     (v : Volume) (s : Session) (k f p budget : ℕ) → length (s .active) ≡ 4 → length (s .reading) ≡ 4
     → holdsEither (view v) s k f ≡ false
     → AsOpenedBy (openFile k f) v s k f p budget × AsOpenedBy (openRead k f) v s k f p budget
-
--- ------------------------------------------------------------------ the decided content
--- "finds the page of the decided content": on any sound volume a look at a page that there is isn't refused, and the sector that it
--- answers and the part that it hands back have that page.
-abbrev pub LooksDecided : Type 0
-LooksDecided =
-    (v : Volume) (f p : ℕ) → sound v ≡ true → IsPage (view v .table) f p
-    → Finds v (decidedContent (view v) f p) (look v f p) × (lookPart v f p ≡ decidedContent (view v) f p)
 
 -- ------------------------------------------------------------------ in the lists
 -- After any list of calls a look at a page that there is isn't refused, whoever holds what: it finds the model's page, and hands it
