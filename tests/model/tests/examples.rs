@@ -7,21 +7,6 @@ use model::book::Book;
 use model::content::decided_pages;
 use model::volume::Read;
 
-/// The new contents of file 1 page 0 and file 2 page 0.
-const FIRST: u8 = 10;
-const SECOND: u8 = 20;
-
-/// V after the calls of E2.
-fn e2() -> Desk {
-    let mut desk = Desk::v();
-    assert_eq!(desk.begin(1), Done(1));
-    assert_eq!(desk.open(1, 1), Done(1));
-    assert_eq!(desk.open(1, 2), Done(1));
-    assert_eq!(desk.write(1, 1, 0, FIRST), Done(2));
-    assert_eq!(desk.write(1, 2, 0, SECOND), Done(2));
-    desk
-}
-
 /// V after the calls of E2 and a commit cut after `budget` stores.
 fn cut_commit(budget: u8) -> Desk {
     let mut desk = e2();

@@ -10,22 +10,6 @@ use model::content::decided_pages;
 use model::reply::{RawSession, Reply};
 use model::volume::{self, Read, Session, SECTOR_SIZE};
 
-/// The new contents of file 1 page 0 and file 2 page 0.
-const FIRST: u8 = 10;
-const SECOND: u8 = 20;
-
-/// V after the calls of E2: headers in 3 and 7, record 1 open with the
-/// entries 01 00 02 00 and 02 00 01 00.
-fn e2() -> Desk {
-    let mut desk = Desk::v();
-    assert_eq!(desk.begin(1), Done(1));
-    assert_eq!(desk.open(1, 1), Done(1));
-    assert_eq!(desk.open(1, 2), Done(1));
-    assert_eq!(desk.write(1, 1, 0, FIRST), Done(2));
-    assert_eq!(desk.write(1, 2, 0, SECOND), Done(2));
-    desk
-}
-
 /// V after the calls of E2 and a commit with this budget.
 fn committed(budget: u8) -> Desk {
     let mut desk = e2();

@@ -180,6 +180,22 @@ impl Desk {
     }
 }
 
+/// The new contents of file 1 page 0 and file 2 page 0.
+pub const FIRST: u8 = 10;
+pub const SECOND: u8 = 20;
+
+/// V after the calls of E2: headers in 3 and 7, record 1 open with the
+/// entries 01 00 02 00 and 02 00 01 00.
+pub fn e2() -> Desk {
+    let mut desk = Desk::v();
+    assert_eq!(desk.begin(1), Done(1));
+    assert_eq!(desk.open(1, 1), Done(1));
+    assert_eq!(desk.open(1, 2), Done(1));
+    assert_eq!(desk.write(1, 1, 0, FIRST), Done(2));
+    assert_eq!(desk.write(1, 2, 0, SECOND), Done(2));
+    desk
+}
+
 /// V with both files open for client 1 and a page of each written.
 pub fn in_use() -> Desk {
     let mut desk = Desk::v();
