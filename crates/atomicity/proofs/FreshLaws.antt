@@ -16,7 +16,7 @@ use Rattle.interface.specs.Answers.{newSession}
 use Rattle.lists.specs.Lists.{first, any, member, from}
 use Rattle.sector.specs.Contents.{Bytes, Record, Header, idleRecord, openRecord, decidedRecord, appended}
 use Rattle.sector.specs.Entries.{givesSlot, redone}
-use Rattle.lists.proofs.ListLaws.{no_both, member-from, member_filter}
+use Rattle.lists.proofs.ListLaws.{no-both, member-from, member-filter}
 use Rattle.lists.proofs.CaseLaws.{by-test}
 use Rattle.lists.proofs.SearchLaws.{member-some, from-length, from-below, filter-one}
 use Rattle.volume.specs.Places.{isClient, isFile, fileAt, IsClient, IsFile, IsPage}
@@ -27,7 +27,7 @@ use Rattle.rules.specs.Recovery.{heldFiles, recovery}
 use Rattle.rules.specs.Plans.{begin, openFile, write, commit, freeSlots, chosen, beginPlan, openPlan, plan}
 use Rattle.rules.specs.Refusals.{tests}
 use Rattle.rules.specs.Content.{decidedContent}
-use Rattle.rules.proofs.SessionLaws.{new-inactive, set_same, active-reading, new-unread, none_read, without-unread}
+use Rattle.rules.proofs.SessionLaws.{new-inactive, set-same, active-reading, new-unread, none-read, without-unread}
 
 -- ------------------------------------------------------------------ the views
 -- What a fresh view shows of client k and of page p of file f, which has a slot to spare.
@@ -74,7 +74,7 @@ module _ {a : View} {k f p : ℕ} (h : Fresh a k f p) where
   client = is-client a.table k h.client.low h.client.high
 
   active : isActive (oneActive k) k ≡ true
-  active = set_same newSession k true refl h.client.low h.four
+  active = set-same newSession k true refl h.client.low h.four
 
   -- Nobody holds a file for reading.
   unread : (j : ℕ) → isReading (oneActive k) j f ≡ false
@@ -101,11 +101,11 @@ module _ {a : View} {k f p : ℕ} (h : Fresh a k f p) where
   -- ------------------------------------------------------------------ open
   pub open-passed : sessionFits (begun a k) (oneActive k) ≡ true → first (tests true (begun a k) (oneActive k) (openFile k f)) ≡ 0
   unfolding first tests
-  open-passed fits = rw (fits, client, active, file, unheld, none_read (oneActive k) k f (λ j lo hi. unread j))
+  open-passed fits = rw (fits, client, active, file, unheld, none-read (oneActive k) k f (λ j lo hi. unread j))
 
-  pub open_made : plan (begun a k) (oneActive k) (openFile k f) ≡ setHeader f (heldHeader a k f) ∷ []
+  pub open-made : plan (begun a k) (oneActive k) (openFile k f) ≡ setHeader f (heldHeader a k f) ∷ []
   unfolding plan openPlan
-  open_made = rw (unheld, ne_eqb 0 k (omega arith))
+  open-made = rw (unheld, ne_eqb 0 k (omega arith))
 
   -- Open ends no reading hold.
   pub open-session : withoutReading (oneActive k) k f ≡ oneActive k
@@ -125,7 +125,7 @@ module _ {a : View} {k f p : ℕ} (h : Fresh a k f p) where
       let spare : (not (member pages ((opened a k f).headers f).map) && not (any (givesSlot f pages) ((opened a k f).records k).entries))
       ≡ true = rw (eq-eqb f f refl, eq-eqb k k refl, h.map, from-below pages 0 pages (omega arith)) in
       member-some pages (freeSlots (opened a k f) k f) (by-test (member pages (freeSlots (opened a k f) k f)) (λ e. e)
-      (λ e. no_both _ spare (member_filter _ pages (from 0 slots) (member-from slots 0 pages (omega arith) (omega arith)) e)))
+      (λ e. no-both _ spare (member-filter _ pages (from 0 slots) (member-from slots 0 pages (omega arith) (omega arith)) e)))
 
   pub write-passed : (d : Bytes) → length d ≡ 256 → sessionFits (opened a k f) (oneActive k) ≡ true
       → first (tests true (opened a k f) (oneActive k) (write k f p d)) ≡ 0

@@ -12,13 +12,13 @@ use borrow.Author.Tests.{ne_eqb}
 use lib.ListN.{length}
 use Rattle.interface.specs.declared.Session.{Session}
 use Rattle.lists.specs.Lists.{every}
-use Rattle.lists.proofs.ListLaws.{no_both}
-use Rattle.lists.proofs.CaseLaws.{by_equal, if-test}
+use Rattle.lists.proofs.ListLaws.{no-both}
+use Rattle.lists.proofs.CaseLaws.{by-equal, if-test}
 use Rattle.volume.specs.Views.{View, Update, changedBy}
 use Rattle.volume.proofs.AlongLaws.{changed-table}
 use Rattle.rules.specs.Sessions.{isActive, setActive, isReading, withReading, withoutReading, withoutReader, holdsEither}
 use Rattle.rules.specs.Plans.{Call, begin, openFile, openRead, write, commit, abort, openReadPlan, plan, sessionAfter}
-use Rattle.rules.proofs.SessionLaws.{set_same, set_other, active-reading, reading-other, with-reading-other, without-reading, without-reading-other, without-reader, not-read}
+use Rattle.rules.proofs.SessionLaws.{set-same, set-other, active-reading, reading-other, with-reading-other, without-reading, without-reading-other, without-reader, not-read}
 use Rattle.rules.proofs.AllowedLaws.{Reader, Shared, MayBegin, MayAct, MayOpen, MayOpenRead, Allowed}
 use Rattle.rules.proofs.FreeLaws.{keepsFree, free-kept, opensFile, plan-keeps, open-read-frees}
 
@@ -36,17 +36,17 @@ module _ (a : View) (s : Session) (marks : length s.active ≡ 4) (words : lengt
       → Shared (changedBy a (plan a s (begin k))) (setActive s k true) j g
   begin-reads k w j g x =
       let r : Shared a s j g = w.ready.reads j g (was x (active-reading s k true j g)) in
-      stays _ (plan a s (begin k)) r (by_equal j k
-      (λ e. rw e (set_same s k true marks w.low (omega (arith, w.high, w.ready.laws.table.four))))
-      (λ n. set_other s k j true w.low x.low n ∙ r.active)) (plan-keeps a s g (begin k) refl)
+      stays _ (plan a s (begin k)) r (by-equal j k
+      (λ e. rw e (set-same s k true marks w.low (omega (arith, w.high, w.ready.laws.table.four))))
+      (λ n. set-other s k j true w.low x.low n ∙ r.active)) (plan-keeps a s g (begin k) refl)
 
   -- The file opened for writing has no reader left: k's hold has ended, and with another's the open is refused.
   open-reads : (k f : ℕ) → MayOpen a s k f → (j g : ℕ) → Reader (withoutReading s k f) j g
       → Shared (changedBy a (plan a s (openFile k f))) (withoutReading s k f) j g
-  open-reads k f w j g x = by_equal g f
-      (λ e. by_equal j k (λ q. no_both _ (rw (e, q) at x.on) (without-reading s k lo words hi f))
-      (λ n. no_both _ (rw e at (other n).on) (not-read s k f j w.unread x.low x.high n)))
-      (λ m. by_equal j k (λ q. go m (was x (rw q (without-reading-other s k lo words hi f g w.either.file.low x.first m)))) (λ n. go m (other n)))
+  open-reads k f w j g x = by-equal g f
+      (λ e. by-equal j k (λ q. no-both _ (rw (e, q) at x.on) (without-reading s k lo words hi f))
+      (λ n. no-both _ (rw e at (other n).on) (not-read s k f j w.unread x.low x.high n)))
+      (λ m. by-equal j k (λ q. go m (was x (rw q (without-reading-other s k lo words hi f g w.either.file.low x.first m)))) (λ n. go m (other n)))
     where
       lo : 1 ≤ k
       lo = w.either.act.active.low
@@ -69,8 +69,8 @@ module _ (a : View) (s : Session) (marks : length s.active ≡ 4) (words : lengt
   open-read-reads k f w = if-test (λ (s' : Session). (j g : ℕ) → Reader s' j g → Shared (changedBy a (openReadPlan a s k f)) s' j g)
       (holdsEither a s k f) s (withReading s k f)
       (λ e j g x. go s x (λ on. on))
-      (λ e j g x. by_equal j k
-      (λ q. by_equal g f (λ z. rw (q, z) (noted e))
+      (λ e j g x. by-equal j k
+      (λ q. by-equal g f (λ z. rw (q, z) (noted e))
       (λ m. go (withReading s k f) (was x (rw q (with-reading-other s k lo words hi f g w.file.low x.first m))) (λ on. on)))
       (λ n. go (withReading s k f) (was x (reading-other s k lo _ j g x.low n)) (λ on. on)))
     where
@@ -96,12 +96,12 @@ module _ (a : View) (s : Session) (marks : length s.active ≡ 4) (words : lengt
   -- Commit and abort: k's holds have ended, and every other client's is as it was.
   ended-reads : (k : ℕ) → MayAct a s k → (c : Call) → ((g : ℕ) → opensFile c g ≡ false) → let s' = withoutReader (setActive s k false) k in
       (j g : ℕ) → Reader s' j g → Shared (changedBy a (plan a s c)) s' j g
-  ended-reads k w c shut j g x = by_equal j k
-      (λ e. no_both _ (rw e at x.on) (without-reader (setActive s k false) k w.active.low words w.active.high g))
+  ended-reads k w c shut j g x = by-equal j k
+      (λ e. no-both _ (rw e at x.on) (without-reader (setActive s k false) k w.active.low words w.active.high g))
       (λ n.
       let y : Reader s j g = was x (reading-other (setActive s k false) k w.active.low 0 j g x.low n ∙ active-reading s k false j g) in
       let r : Shared a s j g = w.ready.reads j g y in
-      stays _ (plan a s c) r (set_other s k j false w.active.low x.low n ∙ r.active) (plan-keeps a s g c (shut g)))
+      stays _ (plan a s c) r (set-other s k j false w.active.low x.low n ∙ r.active) (plan-keeps a s g c (shut g)))
 
   pub returned-reads : (c : Call) → Allowed a s c
       → (j g : ℕ) → Reader (sessionAfter a s c) j g → Shared (changedBy a (plan a s c)) (sessionAfter a s c) j g

@@ -13,12 +13,12 @@ use Rattle.byteset.specs.Bits.{withBit, withoutBit}
 use Rattle.sector.specs.Contents.{Bytes, openRecord}
 use Rattle.sector.specs.Entries.{redone}
 use Rattle.sector.specs.Sectors.{sector, storeAt, padded}
-use Rattle.sector.specs.Shapes.{files_of}
+use Rattle.sector.specs.Shapes.{filesOf}
 use Rattle.sector.specs.Encoding.{fileBytes, encodeTable, entryBytes, encodeRecord, encodeHeader}
 use Rattle.sector.specs.Decoding.{decodeFiles, decodeTable, decodeEntries, decodeRecord, decodeHeader}
 use Rattle.volume.specs.Places.{sectorAfter, fileAt, IsPage}
-use Rattle.volume.specs.Volumes.{Volume, table_of, recordIn, headerIn, slotIn, view}
-use Rattle.volume.specs.Stores.{cut_at, allStores}
+use Rattle.volume.specs.Volumes.{Volume, tableOf, recordIn, headerIn, slotIn, view}
+use Rattle.volume.specs.Stores.{cutAt, allStores}
 use Rattle.volume.specs.Lawful.{lawful}
 use Rattle.volume.specs.Sound.{encoded, canonical, sound}
 use Rattle.volume.specs.Format.{lengthFits, shapeFits, endFits, formatTests, repeated, newFiles, newVolume, format}
@@ -56,11 +56,11 @@ answers n (queryRefused i) = false
 -- is asked for.
 looked : map (λ state. look (half state) 1 0 ∷ look (half state) 1 1 ∷ []) (1 ∷ 2 ∷ [])
     ≡ (found 4 ∷ found 5 ∷ []) ∷ (found 6 ∷ found 5 ∷ []) ∷ []
-unfolding query queryTests first redone sessionFits markFits clientHoldsFit holdFits isReading sound lawful canonical encoded all view table_of recordIn headerIn slotIn decodeTable decodeFiles decodeRecord decodeEntries decodeHeader sector storeAt newVolume newFiles repeated sectorAfter encodeTable fileBytes encodeRecord entryBytes encodeHeader padded
+unfolding query queryTests first redone sessionFits markFits clientHoldsFit holdFits isReading sound lawful canonical encoded all view tableOf recordIn headerIn slotIn decodeTable decodeFiles decodeRecord decodeEntries decodeHeader sector storeAt newVolume newFiles repeated sectorAfter encodeTable fileBytes encodeRecord entryBytes encodeHeader padded
 looked = refl
 
 looked-part : map (λ state. lookPart (half state) 1 0) (1 ∷ 2 ∷ []) ≡ page 0 ∷ page 7 ∷ []
-unfolding query queryTests first redone sessionFits markFits clientHoldsFit holdFits isReading sound lawful canonical encoded all view table_of recordIn headerIn slotIn decodeTable decodeFiles decodeRecord decodeEntries decodeHeader sector storeAt newVolume newFiles repeated sectorAfter encodeTable fileBytes encodeRecord entryBytes encodeHeader padded
+unfolding query queryTests first redone sessionFits markFits clientHoldsFit holdFits isReading sound lawful canonical encoded all view tableOf recordIn headerIn slotIn decodeTable decodeFiles decodeRecord decodeEntries decodeHeader sector storeAt newVolume newFiles repeated sectorAfter encodeTable fileBytes encodeRecord entryBytes encodeHeader padded
 looked-part = refl
 
 -- The model shows a look the page, whatever is pending; a client sees its own.
@@ -71,15 +71,15 @@ model-shows = refl
 -- Client 1 opens file 1 over the decided commit of client 2, for writing and for reading: both recover client 2, and then client 1
 -- reads what the look found, a page that there isn't included.
 opens : map (λ c. (call (half 2) active1 c 9).answer) (openFile 1 1 ∷ openRead 1 1 ∷ []) ≡ done 3 ∷ done 2 ∷ []
-unfolding call tests plan openPlan openReadPlan isReadByOther withBit withoutBit recovery heldFiles redone cut_at allStores first sessionFits markFits clientHoldsFit holdFits isReading sound lawful canonical encoded all view table_of recordIn headerIn slotIn decodeTable decodeFiles decodeRecord decodeEntries decodeHeader sector storeAt newVolume newFiles repeated sectorAfter encodeTable fileBytes encodeRecord entryBytes encodeHeader padded
+unfolding call tests plan openPlan openReadPlan isReadByOther withBit withoutBit recovery heldFiles redone cutAt allStores first sessionFits markFits clientHoldsFit holdFits isReading sound lawful canonical encoded all view tableOf recordIn headerIn slotIn decodeTable decodeFiles decodeRecord decodeEntries decodeHeader sector storeAt newVolume newFiles repeated sectorAfter encodeTable fileBytes encodeRecord entryBytes encodeHeader padded
 opens = refl
 
 opened : let x = call (half 2) active1 (openFile 1 1) 9 in FindsTheSame (half 2) x 1 1 0 × FindsTheSame (half 2) x 1 1 2
-unfolding call tests query queryTests plan openPlan openReadPlan isReadByOther withBit withoutBit recovery heldFiles redone cut_at allStores first sessionFits markFits clientHoldsFit holdFits isReading sound lawful canonical encoded all view table_of recordIn headerIn slotIn decodeTable decodeFiles decodeRecord decodeEntries decodeHeader sector storeAt newVolume newFiles repeated sectorAfter encodeTable fileBytes encodeRecord entryBytes encodeHeader padded
+unfolding call tests query queryTests plan openPlan openReadPlan isReadByOther withBit withoutBit recovery heldFiles redone cutAt allStores first sessionFits markFits clientHoldsFit holdFits isReading sound lawful canonical encoded all view tableOf recordIn headerIn slotIn decodeTable decodeFiles decodeRecord decodeEntries decodeHeader sector storeAt newVolume newFiles repeated sectorAfter encodeTable fileBytes encodeRecord entryBytes encodeHeader padded
 opened = ((refl, refl), (refl, refl))
 
 opened-read : let x = call (half 2) active1 (openRead 1 1) 9 in FindsTheSame (half 2) x 1 1 0 × FindsTheSame (half 2) x 1 1 2
-unfolding call tests query queryTests plan openPlan openReadPlan isReadByOther withBit withoutBit recovery heldFiles redone cut_at allStores first sessionFits markFits clientHoldsFit holdFits isReading sound lawful canonical encoded all view table_of recordIn headerIn slotIn decodeTable decodeFiles decodeRecord decodeEntries decodeHeader sector storeAt newVolume newFiles repeated sectorAfter encodeTable fileBytes encodeRecord entryBytes encodeHeader padded
+unfolding call tests query queryTests plan openPlan openReadPlan isReadByOther withBit withoutBit recovery heldFiles redone cutAt allStores first sessionFits markFits clientHoldsFit holdFits isReading sound lawful canonical encoded all view tableOf recordIn headerIn slotIn decodeTable decodeFiles decodeRecord decodeEntries decodeHeader sector storeAt newVolume newFiles repeated sectorAfter encodeTable fileBytes encodeRecord entryBytes encodeHeader padded
 opened-read = ((refl, refl), (refl, refl))
 
 -- A call that left this volume to both clients.
@@ -88,16 +88,16 @@ left v = record { answer = done 0; session = active12; volume = v }
 
 -- The same sector with other bytes; another sector with the same bytes, as client 2 has an entry for the page.
 other-part : FindsTheSame (half 1) (left (storeAt (half 1) 5 (page 9))) 2 1 1 → ⊥
-unfolding query queryTests first redone sessionFits markFits clientHoldsFit holdFits isReading sound lawful canonical encoded all view table_of recordIn headerIn slotIn decodeTable decodeFiles decodeRecord decodeEntries decodeHeader sector storeAt newVolume newFiles repeated sectorAfter encodeTable fileBytes encodeRecord entryBytes encodeHeader padded
+unfolding query queryTests first redone sessionFits markFits clientHoldsFit holdFits isReading sound lawful canonical encoded all view tableOf recordIn headerIn slotIn decodeTable decodeFiles decodeRecord decodeEntries decodeHeader sector storeAt newVolume newFiles repeated sectorAfter encodeTable fileBytes encodeRecord entryBytes encodeHeader padded
 other-part h = false≢true (ap startsWith0 h.1)
 
 other-answer : FindsTheSame (half 1) (left (storeAt (half 1) 6 (page 0))) 2 1 0 → ⊥
-unfolding query queryTests first redone sessionFits markFits clientHoldsFit holdFits isReading sound lawful canonical encoded all view table_of recordIn headerIn slotIn decodeTable decodeFiles decodeRecord decodeEntries decodeHeader sector storeAt newVolume newFiles repeated sectorAfter encodeTable fileBytes encodeRecord entryBytes encodeHeader padded
+unfolding query queryTests first redone sessionFits markFits clientHoldsFit holdFits isReading sound lawful canonical encoded all view tableOf recordIn headerIn slotIn decodeTable decodeFiles decodeRecord decodeEntries decodeHeader sector storeAt newVolume newFiles repeated sectorAfter encodeTable fileBytes encodeRecord entryBytes encodeHeader padded
 other-answer h = false≢true (ap (answers 4) h.0)
 
 -- It is the look before the call that is compared, and client k's read: client 2 reads its own page where the look found it decided.
 look-before : FindsTheSame (half 2) (left (half 1)) 2 1 0
-unfolding query queryTests first redone sessionFits markFits clientHoldsFit holdFits isReading sound lawful canonical encoded all view table_of recordIn headerIn slotIn decodeTable decodeFiles decodeRecord decodeEntries decodeHeader sector storeAt newVolume newFiles repeated sectorAfter encodeTable fileBytes encodeRecord entryBytes encodeHeader padded
+unfolding query queryTests first redone sessionFits markFits clientHoldsFit holdFits isReading sound lawful canonical encoded all view tableOf recordIn headerIn slotIn decodeTable decodeFiles decodeRecord decodeEntries decodeHeader sector storeAt newVolume newFiles repeated sectorAfter encodeTable fileBytes encodeRecord entryBytes encodeHeader padded
 look-before = (refl, refl)
 
 finds-both : (v : Volume) (x : After) (k f p : ℕ) → FindsTheSame v x k f p
@@ -114,7 +114,7 @@ as-opened-by c v s k f p budget h = h
 
 -- Cut in the midst of the recovery, the same open leaves a client that reads nothing.
 cut-open : AsOpenedBy (openFile 1 1) (half 2) active1 1 1 0 2 × (FindsTheSame (half 2) (call (half 2) active1 (openFile 1 1) 2) 1 1 0 → ⊥)
-unfolding call tests query queryTests plan openPlan openReadPlan isReadByOther withBit withoutBit recovery heldFiles redone cut_at allStores first sessionFits markFits clientHoldsFit holdFits isReading sound lawful canonical encoded all view table_of recordIn headerIn slotIn decodeTable decodeFiles decodeRecord decodeEntries decodeHeader sector storeAt newVolume newFiles repeated sectorAfter encodeTable fileBytes encodeRecord entryBytes encodeHeader padded
+unfolding call tests query queryTests plan openPlan openReadPlan isReadByOther withBit withoutBit recovery heldFiles redone cutAt allStores first sessionFits markFits clientHoldsFit holdFits isReading sound lawful canonical encoded all view tableOf recordIn headerIn slotIn decodeTable decodeFiles decodeRecord decodeEntries decodeHeader sector storeAt newVolume newFiles repeated sectorAfter encodeTable fileBytes encodeRecord entryBytes encodeHeader padded
 cut-open = (tt, λ h. false≢true (ap (answers 6) h.0))
 
 -- ------------------------------------------------------------------ stores
@@ -131,31 +131,31 @@ stores-in : map (storesIn busy)
     (calls false (commit 2) 9 ∷ calls true (commit 2) 9 ∷ calls false (commit 2) 1 ∷ calls false (commit 2) 0 ∷ calls false (begin 2) 9
     ∷ calls true (begin 2) 9 ∷ calls false (openFile 2 1) 9 ∷ asks false (lookPage 1 0) ∷ asks true (readPage 2 1 0) ∷ [])
     ≡ 3 ∷ 0 ∷ 1 ∷ 0 ∷ 0 ∷ 3 ∷ 0 ∷ 0 ∷ 0 ∷ []
-unfolding call tests plan beginPlan openPlan openReadPlan isReadByOther withBit withoutBit recovery heldFiles redone cut_at allStores first sessionFits markFits clientHoldsFit holdFits isReading sound lawful canonical encoded all view table_of recordIn headerIn slotIn decodeTable decodeFiles decodeRecord decodeEntries decodeHeader sector storeAt newVolume newFiles repeated sectorAfter encodeTable fileBytes encodeRecord entryBytes encodeHeader padded
+unfolding call tests plan beginPlan openPlan openReadPlan isReadByOther withBit withoutBit recovery heldFiles redone cutAt allStores first sessionFits markFits clientHoldsFit holdFits isReading sound lawful canonical encoded all view tableOf recordIn headerIn slotIn decodeTable decodeFiles decodeRecord decodeEntries decodeHeader sector storeAt newVolume newFiles repeated sectorAfter encodeTable fileBytes encodeRecord entryBytes encodeHeader padded
 stores-in = refl
 
 -- "Looks with no store between them": a look, a read, a refused call, a call done with 0 stores, one cut with 0, and a look.
-no_store : WithoutStore busy (asks false (lookPage 1 0) ∷ asks false (readPage 2 1 0) ∷ calls false (begin 2) 9 ∷ calls false (openFile 2 1) 9
+no-store : WithoutStore busy (asks false (lookPage 1 0) ∷ asks false (readPage 2 1 0) ∷ calls false (begin 2) 9 ∷ calls false (openFile 2 1) 9
     ∷ calls false (commit 2) 0 ∷ asks false (lookPage 1 0) ∷ [])
-unfolding stepped modelCall call tests plan beginPlan openPlan openReadPlan isReadByOther withBit withoutBit recovery heldFiles redone cut_at allStores first sessionFits markFits clientHoldsFit holdFits isReading sound lawful canonical encoded all view table_of recordIn headerIn slotIn decodeTable decodeFiles decodeRecord decodeEntries decodeHeader sector storeAt newVolume newFiles repeated sectorAfter encodeTable fileBytes encodeRecord entryBytes encodeHeader padded
-no_store = (refl, (refl, (refl, (refl, (refl, (refl, tt))))))
+unfolding stepped modelCall call tests plan beginPlan openPlan openReadPlan isReadByOther withBit withoutBit recovery heldFiles redone cutAt allStores first sessionFits markFits clientHoldsFit holdFits isReading sound lawful canonical encoded all view tableOf recordIn headerIn slotIn decodeTable decodeFiles decodeRecord decodeEntries decodeHeader sector storeAt newVolume newFiles repeated sectorAfter encodeTable fileBytes encodeRecord entryBytes encodeHeader padded
+no-store = (refl, (refl, (refl, (refl, (refl, (refl, tt))))))
 
 -- Nothing else is asked of a step, and the later ones are judged by what the earlier left.
-without_is : (r : Configuration) (x : Step) (xs : List Step) → storesIn r x ≡ 0 → WithoutStore (stepped r x) xs → WithoutStore r (x ∷ xs)
-without_is r x xs e h = (e, h)
+without-is : (r : Configuration) (x : Step) (xs : List Step) → storesIn r x ≡ 0 → WithoutStore (stepped r x) xs → WithoutStore r (x ∷ xs)
+without-is r x xs e h = (e, h)
 
 -- Not a call that makes a store, done or cut, be it the first step or a later one; and after a cut the session is a new one, so that
 -- client 2's begin isn't refused any more.
 a-store : WithoutStore (started fresh) (calls false (begin 1) 1 ∷ []) → ⊥
-unfolding call tests plan beginPlan openPlan openReadPlan isReadByOther withBit withoutBit recovery heldFiles redone cut_at allStores first sessionFits markFits clientHoldsFit holdFits isReading sound lawful canonical encoded all view table_of recordIn headerIn slotIn decodeTable decodeFiles decodeRecord decodeEntries decodeHeader sector storeAt newVolume newFiles repeated sectorAfter encodeTable fileBytes encodeRecord entryBytes encodeHeader padded
+unfolding call tests plan beginPlan openPlan openReadPlan isReadByOther withBit withoutBit recovery heldFiles redone cutAt allStores first sessionFits markFits clientHoldsFit holdFits isReading sound lawful canonical encoded all view tableOf recordIn headerIn slotIn decodeTable decodeFiles decodeRecord decodeEntries decodeHeader sector storeAt newVolume newFiles repeated sectorAfter encodeTable fileBytes encodeRecord entryBytes encodeHeader padded
 a-store h = false≢true (ap (eqb 1) (sym h.0))
 
 a-store-cut : WithoutStore busy (asks false (lookPage 1 0) ∷ calls false (commit 2) 1 ∷ []) → ⊥
-unfolding stepped modelCall call tests plan beginPlan openPlan openReadPlan isReadByOther withBit withoutBit recovery heldFiles redone cut_at allStores first sessionFits markFits clientHoldsFit holdFits isReading sound lawful canonical encoded all view table_of recordIn headerIn slotIn decodeTable decodeFiles decodeRecord decodeEntries decodeHeader sector storeAt newVolume newFiles repeated sectorAfter encodeTable fileBytes encodeRecord entryBytes encodeHeader padded
+unfolding stepped modelCall call tests plan beginPlan openPlan openReadPlan isReadByOther withBit withoutBit recovery heldFiles redone cutAt allStores first sessionFits markFits clientHoldsFit holdFits isReading sound lawful canonical encoded all view tableOf recordIn headerIn slotIn decodeTable decodeFiles decodeRecord decodeEntries decodeHeader sector storeAt newVolume newFiles repeated sectorAfter encodeTable fileBytes encodeRecord entryBytes encodeHeader padded
 a-store-cut h = false≢true (ap (eqb 1) (sym h.1.0))
 
 a-store-later : WithoutStore busy (calls false (commit 2) 0 ∷ calls false (begin 2) 9 ∷ []) → ⊥
-unfolding stepped modelCall call tests plan beginPlan openPlan openReadPlan isReadByOther withBit withoutBit recovery heldFiles redone cut_at allStores first sessionFits markFits clientHoldsFit holdFits isReading sound lawful canonical encoded all view table_of recordIn headerIn slotIn decodeTable decodeFiles decodeRecord decodeEntries decodeHeader sector storeAt newVolume newFiles repeated sectorAfter encodeTable fileBytes encodeRecord entryBytes encodeHeader padded
+unfolding stepped modelCall call tests plan beginPlan openPlan openReadPlan isReadByOther withBit withoutBit recovery heldFiles redone cutAt allStores first sessionFits markFits clientHoldsFit holdFits isReading sound lawful canonical encoded all view tableOf recordIn headerIn slotIn decodeTable decodeFiles decodeRecord decodeEntries decodeHeader sector storeAt newVolume newFiles repeated sectorAfter encodeTable fileBytes encodeRecord entryBytes encodeHeader padded
 a-store-later h = false≢true (ap (eqb 3) (sym h.1.0))
 
 -- ------------------------------------------------------------------ what looks show
@@ -172,7 +172,7 @@ sevens f p = page (if eqb f 1 && eqb p 0 then 7 else 0)
 -- Over the decided commit looks show that, after a crash too, and not zeros.
 shows-sevens : (crash : Bool) → let r = run (half 2) active12 newModel in
     StepShows sevens r (asks crash (lookPage 1 0)) × StepShows sevens r (asks crash (lookPage 1 1)) × (StepShows newModel.pages r (asks crash (lookPage 1 0)) → ⊥)
-unfolding query queryTests first redone sessionFits markFits clientHoldsFit holdFits isReading sound lawful canonical encoded all view table_of recordIn headerIn slotIn decodeTable decodeFiles decodeRecord decodeEntries decodeHeader sector storeAt newVolume newFiles repeated sectorAfter encodeTable fileBytes encodeRecord entryBytes encodeHeader padded
+unfolding query queryTests first redone sessionFits markFits clientHoldsFit holdFits isReading sound lawful canonical encoded all view tableOf recordIn headerIn slotIn decodeTable decodeFiles decodeRecord decodeEntries decodeHeader sector storeAt newVolume newFiles repeated sectorAfter encodeTable fileBytes encodeRecord entryBytes encodeHeader padded
 shows-sevens crash = ((refl, refl), (refl, refl), λ h. false≢true (ap startsWith0 h.0))
 
 step-shows : (content : ℕ → ℕ → Bytes) (r : Configuration) (crash : Bool) (f p : ℕ) → StepShows content r (asks crash (lookPage f p))
@@ -190,7 +190,7 @@ asked-of-all : (content : ℕ → ℕ → Bytes) (r : Configuration) (x y : Step
 asked-of-all content r x y h = (h.0, h.1.0)
 
 over-a-commit : AllShow newModel.pages busy (asks false (lookPage 1 0) ∷ calls false (commit 2) 9 ∷ asks false (lookPage 1 0) ∷ []) → ⊥
-unfolding stepped modelCall call tests query queryTests plan openPlan openReadPlan isReadByOther withBit withoutBit recovery heldFiles redone cut_at allStores first sessionFits markFits clientHoldsFit holdFits isReading sound lawful canonical encoded all view table_of recordIn headerIn slotIn decodeTable decodeFiles decodeRecord decodeEntries decodeHeader sector storeAt newVolume newFiles repeated sectorAfter encodeTable fileBytes encodeRecord entryBytes encodeHeader padded
+unfolding stepped modelCall call tests query queryTests plan openPlan openReadPlan isReadByOther withBit withoutBit recovery heldFiles redone cutAt allStores first sessionFits markFits clientHoldsFit holdFits isReading sound lawful canonical encoded all view tableOf recordIn headerIn slotIn decodeTable decodeFiles decodeRecord decodeEntries decodeHeader sector storeAt newVolume newFiles repeated sectorAfter encodeTable fileBytes encodeRecord entryBytes encodeHeader padded
 over-a-commit h = false≢true (ap startsWith0 h.1.1.0.0)
 
 -- ------------------------------------------------------------------ the claims hold of this volume
@@ -205,10 +205,10 @@ decided-here h = h (half 2)
 
 find-here : LooksFind → (steps : List Step) (f p : ℕ) → let r = ranOver (started fresh) steps in
     IsPage table f p → Finds r.volume (r.model.pages f p) (look r.volume f p) × (lookPart r.volume f p ≡ r.model.pages f p)
-unfolding format formatTests lengthFits shapeFits endFits first all files_of sectorAfter
+unfolding format formatTests lengthFits shapeFits endFits first all filesOf sectorAfter
 find-here h = h (replicate 2304 0xEE) 2 shape refl
 
 together-here : LooksTogether → (before steps : List Step) → let r = ranOver (started fresh) before in
     WithoutStore r steps → AllShow r.model.pages r steps
-unfolding format formatTests lengthFits shapeFits endFits first all files_of sectorAfter
+unfolding format formatTests lengthFits shapeFits endFits first all filesOf sectorAfter
 together-here h = h (replicate 2304 0xEE) 2 shape refl

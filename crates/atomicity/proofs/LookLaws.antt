@@ -21,15 +21,15 @@ use Rattle.sector.specs.Entries.{forPage}
 use Rattle.sector.specs.Sectors.{sector}
 use Rattle.lists.proofs.ListLaws.{or-none}
 use Rattle.lists.proofs.CaseLaws.{if-test, if-equal}
-use Rattle.lists.proofs.SearchLaws.{or-true, find_none}
+use Rattle.lists.proofs.SearchLaws.{or-true, find-none}
 use Rattle.volume.specs.Places.{fileAt, IsPage, slotPlace, sectorOf}
 use Rattle.volume.specs.Views.{View, Update, setHeader, changedBy}
 use Rattle.volume.specs.Volumes.{Volume, view}
 use Rattle.volume.specs.Sound.{sound}
-use Rattle.volume.specs.Stores.{Store, cut_at}
+use Rattle.volume.specs.Stores.{Store, cutAt}
 use Rattle.volume.specs.Format.{format}
 use Rattle.volume.proofs.PlaceLaws.{is-client, is-file}
-use Rattle.volume.proofs.AccessLaws.{slot_is}
+use Rattle.volume.proofs.AccessLaws.{slot-is}
 use Rattle.volume.proofs.StoreLaws.{cut-none}
 use Rattle.volume.proofs.AlongLaws.{along-end, changed-append, changed-table}
 use Rattle.volume.proofs.SoundLaws.{Fine, fine, fine-sound}
@@ -38,7 +38,7 @@ use Rattle.rules.specs.Recovery.{isDecided, recovery}
 use Rattle.rules.specs.Plans.{Call, openFile, openRead, readPage, lookPage, entryFor, slotFor, heldByOrphan, openPlan, openReadPlan, plan, sessionAfter}
 use Rattle.rules.specs.Content.{decidedMap, decidedSlot}
 use Rattle.rules.specs.Refusals.{queryTests}
-use Rattle.rules.specs.Calls.{After, callStores, queryBy, query, queryPart, part_of, look, lookPart}
+use Rattle.rules.specs.Calls.{After, callStores, queryBy, query, queryPart, partOf, look, lookPart}
 use Rattle.rules.proofs.SessionLaws.{with-reading}
 use Rattle.rules.proofs.CallLaws.{Passed, call-case, query-answered, query-case}
 use Rattle.rules.proofs.AllowedLaws.{MayAct, MayOpenRead, running-undecided, running-foreign}
@@ -77,14 +77,14 @@ module _ {v w : Volume} {s s' : Session} {k f : ℕ} (x : Opened v s k f w s') (
   -- Client k has no entry for the page, so it reads by the map.
   same-slot : slotFor (view w) f p (entryFor (view w) k f p) ≡ decidedSlot (view v) f p
   same-slot =
-      let none-for : entryFor (view w) k f p ≡ none = rw (own-kept x.may.act x.kept) (find_none (forPage f p) ((view v).records k).entries
+      let none-for : entryFor (view w) k f p ≡ none = rw (own-kept x.may.act x.kept) (find-none (forPage f p) ((view v).records k).entries
       (running-foreign x.may.act.running f x.away (λ e. eqb e.page p))) in
       rw none-for (ap (λ (m : List ℕ). get_or m p 0) (sym x.map ∙ x.kept.maps f x.may.file))
 
   -- Both are refused by 9, or neither is.
-  same_tests : first (queryTests (sound w) (view w) s' (readPage k f p)) ≡ first (queryTests (sound v) (view v) newSession (lookPage f p))
+  same-tests : first (queryTests (sound w) (view w) s' (readPage k f p)) ≡ first (queryTests (sound v) (view v) newSession (lookPage f p))
   unfolding first queryTests
-  same_tests = rw (
+  same-tests = rw (
     fine-sound w x.after.volume,
     fine-sound v x.before,
     x.after.session,
@@ -95,25 +95,25 @@ module _ {v w : Volume} {s s' : Session} {k f : ℕ} (x : Opened v s k f w s') (
     x.hold,
   )
 
-  same_by : (n : ℕ) → queryBy n (view w) (readPage k f p) ≡ queryBy n (view v) (lookPage f p)
-  same_by zero = rw (same-slot, x.table)
-  same_by (suc n) = refl
+  same-by : (n : ℕ) → queryBy n (view w) (readPage k f p) ≡ queryBy n (view v) (lookPage f p)
+  same-by zero = rw (same-slot, x.table)
+  same-by (suc n) = refl
 
-  same_answer : query w s' (readPage k f p) ≡ look v f p
+  same-answer : query w s' (readPage k f p) ≡ look v f p
   unfolding query
-  same_answer = rw same_tests (same_by (first (queryTests (sound v) (view v) newSession (lookPage f p))))
+  same-answer = rw same-tests (same-by (first (queryTests (sound v) (view v) newSession (lookPage f p))))
 
   -- The sector that a look answers has the same bytes after the open.
-  same_bytes : part_of w (look v f p) ≡ lookPart v f p
-  same_bytes = query-case (λ (y : QueryAnswer). part_of w y ≡ part_of v y) v newSession (lookPage f p) (λ n e. refl)
+  same-bytes : partOf w (look v f p) ≡ lookPart v f p
+  same-bytes = query-case (λ (y : QueryAnswer). partOf w y ≡ partOf v y) v newSession (lookPage f p) (λ n e. refl)
       (λ ok here e.
       let below = decided-below here.laws f p here.file here.page in
       let there : (view w).slots f (decidedSlot (view v) f p) ≡ sector w (sectorOf (view w).table (slotPlace f (decidedSlot (view v) f p)))
-      = slot_is w f _ (rw x.table here.file) (rw x.table below) in
-      sym (rw x.table at there) ∙ x.kept.bytes f p here.file here.page ∙ slot_is v f _ here.file below)
+      = slot-is w f _ (rw x.table here.file) (rw x.table below) in
+      sym (rw x.table at there) ∙ x.kept.bytes f p here.file here.page ∙ slot-is v f _ here.file below)
 
   same-found : (query w s' (readPage k f p) ≡ look v f p) × (queryPart w s' (readPage k f p) ≡ lookPart v f p)
-  same-found = (same_answer, ap (part_of w) same_answer ∙ same_bytes)
+  same-found = (same-answer, ap (partOf w) same-answer ∙ same-bytes)
 
 -- ------------------------------------------------------------------ each open
 -- Opened for writing, the file is held by the client.
@@ -133,7 +133,7 @@ opened-holder a s k f =
 module _ (v : Volume) (s : Session) (k f : ℕ) (marks : length s.active ≡ 4) (words : length s.reading ≡ 4)
     (free : holdsEither (view v) s k f ≡ false) (budget : ℕ) where
   abbrev left : Call → Volume
-  left c = cut_at v (callStores v s c) budget
+  left c = cutAt v (callStores v s c) budget
 
   away : ((view v).headers f).holder ≢ k
   away = eqb-false _ _ (or-none (holds (view v) k f) (isReading s k f) free).0
@@ -225,8 +225,8 @@ looks-find v T l d steps f p i =
 
 -- ------------------------------------------------------------------ together
 -- No store leaves the volume.
-cut-empty : (v : Volume) (xs : List Store) (n : ℕ) → length xs ≡ 0 → cut_at v xs n ≡ v
-unfolding cut_at
+cut-empty : (v : Volume) (xs : List Store) (n : ℕ) → length xs ≡ 0 → cutAt v xs n ≡ v
+unfolding cutAt
 cut-empty v [] n e = refl
 cut-empty v (x ∷ xs) n e = absurd (omega (arith, e))
 

@@ -27,8 +27,8 @@ record State : Type 0 where
   pages : List Bytes
   pending : List (List (Option Bytes))
 
-abbrev state_of : Model → State
-state_of m = record { pages = overPages m.pages; pending = map (λ k. overPages (m.pending k)) (1 ∷ 2 ∷ 3 ∷ 4 ∷ []) }
+abbrev stateOf : Model → State
+stateOf m = record { pages = overPages m.pages; pending = map (λ k. overPages (m.pending k)) (1 ∷ 2 ∷ 3 ∷ 4 ∷ []) }
 
 -- Nothing is pending for a client.
 abbrev nothing : List (Option Bytes)
@@ -45,7 +45,7 @@ zeros = replicate 256 0
 abbrev old : List Bytes
 old = replicate 4 zeros
 
-after-format : state_of newModel ≡ state old nothing nothing
+after-format : stateOf newModel ≡ state old nothing nothing
 after-format = refl
 
 -- ------------------------------------------------------------------ writes
@@ -81,20 +81,20 @@ abbrev own2 : List (Option Bytes)
 own2 = some C ∷ none ∷ some D ∷ none ∷ []
 
 -- "the page goes on k's slip": no other page, file or client has it, and no page is changed.
-writes-pend : state_of busy ≡ state old own1 own2
+writes-pend : stateOf busy ≡ state old own1 own2
 unfolding modelCall
 writes-pend = refl
 
 -- "in place of an earlier one for the same (file, page)"
-write_again : state_of (wrote busy ((1, 1, 0, E) ∷ [])) ≡ state old (some E ∷ none ∷ none ∷ some B ∷ []) own2
+write-again : stateOf (wrote busy ((1, 1, 0, E) ∷ [])) ≡ state old (some E ∷ none ∷ none ∷ some B ∷ []) own2
 unfolding modelCall
-write_again = refl
+write-again = refl
 
 -- Client 1 commits: "the pages on k's slip replace the book's"; the others stay, also when client 2 commits after it.
 abbrev committedBy1 : Model
 committedBy1 = modelCall busy active12 (commit 1) (done 4)
 
-commits-add-up : state_of (modelCall committedBy1 active12 (commit 2) (done 4)) ≡ state (C ∷ zeros ∷ D ∷ B ∷ []) nothing nothing
+commits-add-up : stateOf (modelCall committedBy1 active12 (commit 2) (done 4)) ≡ state (C ∷ zeros ∷ D ∷ B ∷ []) nothing nothing
 unfolding modelCall
 commits-add-up = refl
 
@@ -110,7 +110,7 @@ shows-after = refl
 -- ------------------------------------------------------------------ every call, by its answer
 -- What each call of client 1 leaves, given this session, if it answered so.
 abbrev leave : Session → Answer → List State
-leave s x = map (λ c. state_of (modelCall busy s c x)) (begin 1 ∷ openFile 1 1 ∷ openRead 1 1 ∷ write 1 1 1 E ∷ commit 1 ∷ abort 1 ∷ [])
+leave s x = map (λ c. stateOf (modelCall busy s c x)) (begin 1 ∷ openFile 1 1 ∷ openRead 1 1 ∷ write 1 1 1 E ∷ commit 1 ∷ abort 1 ∷ [])
 
 -- Nothing changes; every client's pending pages are dropped.
 abbrev unchanged : State
@@ -141,7 +141,7 @@ unfolding modelCall
 crashed-at-0 = refl
 
 -- "Anything else changes nothing": so it is of a write and an abort that are cut, before all is dropped.
-crashed-before : map (λ c. state_of (effect busy c (crashed 1))) (write 1 1 1 E ∷ abort 1 ∷ []) ≡ unchanged ∷ unchanged ∷ []
+crashed-before : map (λ c. stateOf (effect busy c (crashed 1))) (write 1 1 1 E ∷ abort 1 ∷ []) ≡ unchanged ∷ unchanged ∷ []
 unfolding modelCall
 crashed-before = refl
 
@@ -172,7 +172,7 @@ unfolding modelCall
 refused-given-none n = refl
 
 -- The mark of any client is one, not only the caller's. A reading hold is none: a session with holds and no mark empties every slip.
-any-mark : map (λ s. state_of (modelCall busy s (begin 1) (done 1)))
+any-mark : map (λ s. stateOf (modelCall busy s (begin 1) (done 1)))
     (active1 ∷ active2 ∷ active3 ∷ active4 ∷ reads newSession (1 ∷ 1 ∷ 0 ∷ 0 ∷ []) ∷ [])
     ≡ unchanged ∷ unchanged ∷ unchanged ∷ unchanged ∷ dropped ∷ []
 unfolding modelCall
@@ -191,12 +191,12 @@ no-crash : (s : Session) → given false s ≡ s
 no-crash s = refl
 
 -- A call is given that session, and so is the model; the session handed back is the call's.
-call_step : (r : Configuration) (crash : Bool) (c : Call) (budget : ℕ)
+call-step : (r : Configuration) (crash : Bool) (c : Call) (budget : ℕ)
     → let s = given crash r.session in
     let x = call r.volume s c budget in
     stepped r (calls crash c budget) ≡ record { volume = x.volume; session = x.session; model = modelCall r.model s c x.answer }
 unfolding stepped
-call_step r crash c budget = refl
+call-step r crash c budget = refl
 
 -- "A read changes nothing", nor after a crash.
 query-step : (r : Configuration) (crash : Bool) (q : Query) → stepped r (asks crash q) ≡ r
@@ -204,5 +204,5 @@ unfolding stepped
 query-step r crash q = refl
 
 -- One step after the other.
-two_steps : (r : Configuration) (x y : Step) → ranOver r (x ∷ y ∷ []) ≡ stepped (stepped r x) y
-two_steps r x y = refl
+two-steps : (r : Configuration) (x y : Step) → ranOver r (x ∷ y ∷ []) ≡ stepped (stepped r x) y
+two-steps r x y = refl

@@ -13,7 +13,7 @@ use Rattle.interface.specs.Answers.{newSession, QueryAnswer, formatDone}
 use Rattle.sector.specs.Contents.{Bytes}
 use Rattle.volume.specs.Volumes.{Volume, view}
 use Rattle.volume.specs.Sound.{sound}
-use Rattle.volume.specs.Stores.{cut_at}
+use Rattle.volume.specs.Stores.{cutAt}
 use Rattle.volume.specs.Format.{tableFor, format}
 use Rattle.volume.proofs.SoundLaws.{Fine, fine, fine-sound}
 use Rattle.volume.proofs.FormatLaws.{new-fine, FormatFacts, format-done}
@@ -50,7 +50,7 @@ given-steady false h = h
 
 -- What a call that is done leaves.
 pub done-steady : {v : Volume} {s : Session} {c : Call} → Passed v s c → length s.active ≡ 4 → length s.reading ≡ 4
-    → (budget : ℕ) → length (callStores v s c) ≤ budget → Steady (cut_at v (callStores v s c) budget) (sessionAfter (view v) s c)
+    → (budget : ℕ) → length (callStores v s c) ≤ budget → Steady (cutAt v (callStores v s c) budget) (sessionAfter (view v) s c)
 done-steady {v} {s} {c} ok marks words budget le = record {
   volume = left-fine v s c ok budget;
   session = rw (left-all v s c ok budget le)

@@ -12,8 +12,8 @@ use lib.Dec.{eqb}
 use Rattle.interface.specs.declared.Session.{Session}
 use Rattle.lists.specs.Lists.{if◌then◌else◌, every, member}
 use Rattle.sector.specs.Contents.{Table, Header, idleRecord, openRecord}
-use Rattle.lists.proofs.ListLaws.{and_left, and_right, or_right, or-none, no_both}
-use Rattle.lists.proofs.CaseLaws.{by_equal, if-test, if-equal}
+use Rattle.lists.proofs.ListLaws.{and-left, and-right, or-right, or-none, no-both}
+use Rattle.lists.proofs.CaseLaws.{by-equal, if-test, if-equal}
 use Rattle.volume.specs.Places.{isFile}
 use Rattle.volume.specs.Views.{View, Update, setRecord, setHeader, changed, changedBy}
 use Rattle.volume.proofs.PlaceLaws.{IsFile, file-of}
@@ -26,7 +26,7 @@ use Rattle.rules.specs.Content.{decidedMap}
 use Rattle.rules.proofs.AllowedLaws.{Others, Running, MayBegin, MayAct, MayOpenRead, holder-orphaned, running-undecided, running-foreign}
 use Rattle.rules.proofs.ContentLaws.{decidedHeader, unheld-map, decided-fits}
 use Rattle.rules.proofs.RecoveryLaws.{held-files, held-member, freeing, map-after, recovery-is}
-use Rattle.atomicity.proofs.KeepLaws.{Keeps, keeps_self, keep-header, keep-record}
+use Rattle.atomicity.proofs.KeepLaws.{Keeps, keeps-self, keep-header, keep-record}
 
 -- Every prefix of the updates, made on view a, keeps what a₀ has.
 abbrev pub KeptAlong : View → Session → ℕ → View → List Update → Type 0
@@ -50,20 +50,20 @@ module _ (a₀ : View) (s : Session) (k j : ℕ) (laws : Lawful a₀.table a₀)
       step {x = setRecord j idleRecord} kept (lo, hi, idle-fits a₀.table)
       (after _ (keep-record kept j idleRecord (idle-fits a₀.table) (λ f i e. absurd (unnamed f i e)) ne) unnamed)
   freeing-along (f ∷ fs) a held left kept =
-      let this = and_left (isFile a₀.table f && eqb (a₀.headers f).holder j) _ held in
-      let file : IsFile a₀.table f = file-of a₀.table f (and_left (isFile a₀.table f) _ this) in
-      let holder : (a₀.headers f).holder ≡ j = eqb-true _ _ (and_right (isFile a₀.table f) _ this) in
+      let this = and-left (isFile a₀.table f && eqb (a₀.headers f).holder j) _ held in
+      let file : IsFile a₀.table f = file-of a₀.table f (and-left (isFile a₀.table f) _ this) in
+      let holder : (a₀.headers f).holder ≡ j = eqb-true _ _ (and-right (isFile a₀.table f) _ this) in
       step kept (placed-header (decidedHeader a₀ f 0) laws.table file (decided-fits laws f file))
-      (freeing-along fs _ (and_right (isFile a₀.table f && eqb (a₀.headers f).holder j) _ held) still
+      (freeing-along fs _ (and-right (isFile a₀.table f && eqb (a₀.headers f).holder j) _ held) still
       (keep-header kept f 0 (record { map = decided-fits laws f file; holder = λ n. absurd (n refl) }) refl (λ i o q. ne i o (sym q ∙ holder))))
     where
       still : (g : ℕ) → IsFile a₀.table g → ((changed a (setHeader f (decidedHeader a₀ f 0))).headers g).holder ≡ j
           → member g fs ≡ true
       still g i = if-equal (λ (h : Header). h.holder ≡ j → member g fs ≡ true) g f (decidedHeader a₀ f 0) (a.headers g)
-          (λ e q. absurd (omega arith)) (λ n q. or_right (eqb g f) (member g fs) (left g i q) (ne_eqb g f n))
+          (λ e q. absurd (omega arith)) (λ n q. or-right (eqb g f) (member g fs) (left g i q) (ne_eqb g f n))
 
   recovers : KeptAlong a₀ s k a₀ (freeing a₀ (heldFiles a₀ j) ++ (setRecord j idleRecord ∷ ys))
-  recovers = freeing-along (heldFiles a₀ j) a₀ (held-files a₀ j) (held-member a₀ j) (keeps_self laws)
+  recovers = freeing-along (heldFiles a₀ j) a₀ (held-files a₀ j) (held-member a₀ j) (keeps-self laws)
 
   pub recovery-then : KeptAlong a₀ s k a₀ (recovery (isDecided a₀ j) a₀ j ++ ys)
   recovery-then = rw (recovery-is a₀ j lo, append_assoc (freeing a₀ (heldFiles a₀ j)) (setRecord j idleRecord ∷ []) ys) recovers
@@ -89,9 +89,9 @@ module _ {a : View} {s : Session} {k : ℕ} where
   begin-along w =
       if-test (λ (xs : List Update). KeptAlong a s k a (xs ++ (setRecord k openRecord ∷ []))) (isOrphaned a s k) _ []
       (λ e. recovery-then a s k k w.ready.laws w.low w.high (λ i o. o.other) (setRecord k openRecord ∷ []) opened)
-      (λ e. opened a (keeps_self w.ready.laws) (λ f i q.
+      (λ e. opened a (keeps-self w.ready.laws) (λ f i q.
       let idle : eqb (a.records k).state 0 ≡ true = not-false _ (rw w.off at e) in
-      no_both _ idle (rw q at ((w.ready.laws.headers f i).holder (rw q (omega (arith, w.low)))).live)))
+      no-both _ idle (rw q at ((w.ready.laws.headers f i).holder (rw q (omega (arith, w.low)))).live)))
     where
       opened : (b : View) → Keeps a s k b → Unnamed a.table k b → KeptAlong a s k b (setRecord k openRecord ∷ [])
       opened b kept unnamed =
@@ -105,7 +105,7 @@ module _ {a : View} {s : Session} {k : ℕ} where
     unheld i o q =
         let some : eqb (a.headers f).holder 0 ≡ false = rw q (ne_eqb i 0 (omega (arith, o.active.low))) in
         let off : isActive s (a.headers f).holder ≡ false = rw (ne_eqb _ k foreign, some) at w.free in
-        no_both (isActive s i) o.active.on (rw q at off)
+        no-both (isActive s i) o.active.on (rw q at off)
 
     takes : (b : View) → Keeps a s 0 b → KeptAlong a s 0 b (setHeader f (decidedHeader a f k) ∷ [])
     takes b kept =
@@ -136,9 +136,9 @@ module _ {a : View} {s : Session} {k : ℕ} where
   pub open-along : {f : ℕ} → MayOpenRead a s k f → KeptAlong a s 0 a (openPlan a s k f)
   unfolding openPlan
   open-along {f} w =
-      let self : Keeps a s 0 a = keeps_self w.act.ready.laws in
+      let self : Keeps a s 0 a = keeps-self w.act.ready.laws in
       if-equal (KeptAlong a s 0 a) (a.headers f).holder k [] _ (λ e. last self)
-      (λ n. rw (holder-orphaned a s k f (w.act.ready.laws.headers f w.file) w.free n) (by_equal (a.headers f).holder 0
+      (λ n. rw (holder-orphaned a s k f (w.act.ready.laws.headers f w.file) w.free n) (by-equal (a.headers f).holder 0
       (λ e. rw (eq-eqb _ 0 e, sym (unheld-map a f e)) (takes w n a self))
       (λ z. rw (ne_eqb _ 0 z) (orphaned (a.headers f).holder refl n (omega arith)))))
     where
@@ -150,12 +150,12 @@ module _ {a : View} {s : Session} {k : ℕ} where
   pub open-read-along : {f : ℕ} → MayOpenRead a s k f → KeptAlong a s 0 a (openReadPlan a s k f)
   unfolding openReadPlan
   open-read-along {f} w =
-      let self : Keeps a s 0 a = keeps_self w.act.ready.laws in
+      let self : Keeps a s 0 a = keeps-self w.act.ready.laws in
       let h = (a.headers f).holder in
       if-test (KeptAlong a s 0 a) (holdsEither a s k f) [] _ (λ e. last self)
       (λ e.
       let n : h ≢ k = eqb-false _ _ (or-none (holds a k f) (isReading s k f) e).0 in
-      rw (holder-orphaned a s k f (w.act.ready.laws.headers f w.file) w.free n) (by_equal h 0
+      rw (holder-orphaned a s k f (w.act.ready.laws.headers f w.file) w.free n) (by-equal h 0
       (λ z. rw (eq-eqb _ 0 z) (last self))
       (λ z. rw (ne_eqb _ 0 z) (recovery-of s 0 h w.act.ready.laws (omega arith) (holder-client w refl n (omega arith)) (holder-other w refl n (omega arith))))))
 

@@ -31,7 +31,7 @@ use Rattle.atomicity.specs.Runs.{Configuration, started, called}
 use Rattle.atomicity.specs.NonVacuity.{calledAll, answersTo, writing, WritesTakeEffect}
 use Rattle.atomicity.proofs.StepLaws.{left-all}
 use Rattle.atomicity.proofs.NonVacuity.{Steady, new-steady, call-steady}
-use Rattle.atomicity.proofs.FreshLaws.{Fresh, opened, begin-passed, begin-made, open-passed, open_made, open-session, write-passed, write-made, commit-passed, commit-made, committed-content}
+use Rattle.atomicity.proofs.FreshLaws.{Fresh, opened, begin-passed, begin-made, open-passed, open-made, open-session, write-passed, write-made, commit-passed, commit-made, committed-content}
 
 -- ------------------------------------------------------------------ a call that is done
 -- Where a run is: its volume and session are steady, and these are its view and its session.
@@ -69,7 +69,7 @@ effective : {a : View} {k f p : ℕ} (h : Fresh a k f p) (d : Bytes) → length 
 effective {a} {k} {f} {p} h d size r budget start le =
     let slot = chosen (opened a k f) k f p in
     let b = advance (begin k) _ budget start (begin-passed h) (begin-made h) refl (omega arith) in
-    let o = advance (openFile k f) _ budget b.1 (open-passed h) (open_made h) (open-session h) (omega arith) in
+    let o = advance (openFile k f) _ budget b.1 (open-passed h) (open-made h) (open-session h) (omega arith) in
     let w = advance (write k f p d) _ budget o.1 (write-passed h d size) (write-made h d) refl (omega arith) in
     let c = advance (commit k) _ budget w.1 (commit-passed h d slot) (commit-made h d slot) refl le in
     (rw (b.0, o.0, w.0, c.0), rw c.1.seen (committed-content h d slot))

@@ -15,13 +15,13 @@ use Rattle.byteset.specs.Bits.{withBit}
 use Rattle.sector.specs.Contents.{Bytes, Table, openRecord}
 use Rattle.sector.specs.Entries.{redone}
 use Rattle.sector.specs.Sectors.{sector, storeAt, padded}
-use Rattle.sector.specs.Shapes.{files_of}
+use Rattle.sector.specs.Shapes.{filesOf}
 use Rattle.sector.specs.Encoding.{fileBytes, encodeTable, entryBytes, encodeRecord, encodeHeader}
 use Rattle.sector.specs.Decoding.{decodeFiles, decodeTable, decodeEntries, decodeRecord, decodeHeader}
 use Rattle.volume.specs.Places.{sectorAfter, IsClient, IsFile, IsPage}
 use Rattle.volume.specs.Views.{View}
-use Rattle.volume.specs.Volumes.{Volume, table_of, recordIn, headerIn, slotIn, view}
-use Rattle.volume.specs.Stores.{cut_at, allStores}
+use Rattle.volume.specs.Volumes.{Volume, tableOf, recordIn, headerIn, slotIn, view}
+use Rattle.volume.specs.Stores.{cutAt, allStores}
 use Rattle.volume.specs.Lawful.{lawful}
 use Rattle.volume.specs.Sound.{encoded, canonical, sound}
 use Rattle.volume.specs.Format.{lengthFits, shapeFits, endFits, formatTests, repeated, newFiles, newVolume, format}
@@ -39,9 +39,9 @@ use Rattle.atomicity.specs.Readers.{givenTo, Finds, ReadersShown, Unchanged, Ste
 use Rattle.atomicity.proofs.StatementExamples.{shape, table, fresh, page, pending7, run}
 
 -- The session that a step is given: that of the configuration, or a new one after a crash.
-given_to : (r : Configuration) → map (givenTo r) (calls false (begin 1) 3 ∷ calls true (begin 1) 3 ∷ asks false (readPage 1 1 0) ∷ asks true (readPage 1 1 0) ∷ [])
+given-to : (r : Configuration) → map (givenTo r) (calls false (begin 1) 3 ∷ calls true (begin 1) 3 ∷ asks false (readPage 1 1 0) ∷ asks true (readPage 1 1 0) ∷ [])
     ≡ r.session ∷ newSession ∷ r.session ∷ newSession ∷ []
-given_to r = refl
+given-to r = refl
 
 -- ------------------------------------------------------------------ what contradicts the claims
 -- Both clients have begun, and nobody holds a file for writing. Both read file 1.
@@ -64,18 +64,18 @@ startsWith7 d = eqb (get_or d 0 1) 7
 
 -- A model that shows sevens, where the content is zeros.
 wrong-shown : ReadersShown table (run begun both (record { pages = λ f p. page 7; pending = newModel.pending })) (calls false (begin 1) 3) → ⊥
-unfolding sessionFits markFits clientHoldsFit holdFits isReading sound lawful canonical encoded all view table_of recordIn headerIn slotIn decodeTable decodeFiles decodeRecord decodeEntries decodeHeader sector storeAt newVolume newFiles repeated sectorAfter encodeTable fileBytes encodeRecord entryBytes encodeHeader padded
+unfolding sessionFits markFits clientHoldsFit holdFits isReading sound lawful canonical encoded all view tableOf recordIn headerIn slotIn decodeTable decodeFiles decodeRecord decodeEntries decodeHeader sector storeAt newVolume newFiles repeated sectorAfter encodeTable fileBytes encodeRecord entryBytes encodeHeader padded
 wrong-shown h = false≢true (ap startsWith7 (sym (h 2 1 0 client2 page0 refl).0))
 
 -- A read that is refused, as the volume isn't sound: it finds nothing, and hands back nothing.
 wrong-part : ReadersShown table (run (set begun 0 0) both newModel) (asks false (readPage 1 1 0)) → ⊥
-unfolding query queryTests first sessionFits markFits clientHoldsFit holdFits isReading sound lawful canonical encoded all view table_of recordIn headerIn slotIn decodeTable decodeFiles decodeRecord decodeEntries decodeHeader sector storeAt newVolume newFiles repeated sectorAfter encodeTable fileBytes encodeRecord entryBytes encodeHeader padded
+unfolding query queryTests first sessionFits markFits clientHoldsFit holdFits isReading sound lawful canonical encoded all view tableOf recordIn headerIn slotIn decodeTable decodeFiles decodeRecord decodeEntries decodeHeader sector storeAt newVolume newFiles repeated sectorAfter encodeTable fileBytes encodeRecord entryBytes encodeHeader padded
 wrong-part h = false≢true (ap (λ (d : Bytes). eqb (get_or d 0 1) 0) (h 2 1 0 client2 page0 refl).2)
 
 -- Client 1 commits sevens for a page that client 2 reads, before and after it: what client 2 is shown changes. Such pages aren't
 -- pending in any run.
 page-changes : StepSteady table (run begun both pending7) (calls false (commit 1) 3) → ⊥
-unfolding stepped modelCall call tests plan recovery heldFiles redone cut_at allStores first sessionFits markFits clientHoldsFit holdFits isReading sound lawful canonical encoded all view table_of recordIn headerIn slotIn decodeTable decodeFiles decodeRecord decodeEntries decodeHeader sector storeAt newVolume newFiles repeated sectorAfter encodeTable fileBytes encodeRecord entryBytes encodeHeader padded
+unfolding stepped modelCall call tests plan recovery heldFiles redone cutAt allStores first sessionFits markFits clientHoldsFit holdFits isReading sound lawful canonical encoded all view tableOf recordIn headerIn slotIn decodeTable decodeFiles decodeRecord decodeEntries decodeHeader sector storeAt newVolume newFiles repeated sectorAfter encodeTable fileBytes encodeRecord entryBytes encodeHeader padded
 page-changes h = false≢true (ap startsWith7 (sym (h 2 1 0 client2 page0 refl).1))
 
 -- A question that is refused finds nothing, and one that finds other bytes doesn't find these.
@@ -122,7 +122,7 @@ stay-of-all t r c budget h = h
 -- ------------------------------------------------------------------ while a client holds
 -- Client 2 reads through a question, client 1's commit and its own; not through a crash, and not on after its commit.
 reads-through : ReadsThrough (run begun both newModel) 2 1 (asks false (readPage 1 1 1) ∷ calls false (commit 1) 3 ∷ calls false (commit 2) 3 ∷ [])
-unfolding stepped modelCall call tests plan recovery heldFiles redone cut_at allStores first sessionFits markFits clientHoldsFit holdFits isReading sound lawful canonical encoded all view table_of recordIn headerIn slotIn decodeTable decodeFiles decodeRecord decodeEntries decodeHeader sector storeAt newVolume newFiles repeated sectorAfter encodeTable fileBytes encodeRecord entryBytes encodeHeader padded
+unfolding stepped modelCall call tests plan recovery heldFiles redone cutAt allStores first sessionFits markFits clientHoldsFit holdFits isReading sound lawful canonical encoded all view tableOf recordIn headerIn slotIn decodeTable decodeFiles decodeRecord decodeEntries decodeHeader sector storeAt newVolume newFiles repeated sectorAfter encodeTable fileBytes encodeRecord entryBytes encodeHeader padded
 reads-through = (refl, (refl, (refl, tt)))
 
 not-through-crash : ReadsThrough (run begun both newModel) 2 1 (calls true (begin 1) 3 ∷ []) → ⊥
@@ -130,17 +130,17 @@ unfolding isReading
 not-through-crash h = false≢true h.0
 
 not-through-commit : ReadsThrough (run begun both newModel) 2 1 (calls false (commit 2) 3 ∷ calls false (begin 2) 3 ∷ []) → ⊥
-unfolding stepped modelCall call tests plan recovery heldFiles redone cut_at allStores first sessionFits markFits clientHoldsFit holdFits isReading sound lawful canonical encoded all view table_of recordIn headerIn slotIn decodeTable decodeFiles decodeRecord decodeEntries decodeHeader sector storeAt newVolume newFiles repeated sectorAfter encodeTable fileBytes encodeRecord entryBytes encodeHeader padded
+unfolding stepped modelCall call tests plan recovery heldFiles redone cutAt allStores first sessionFits markFits clientHoldsFit holdFits isReading sound lawful canonical encoded all view tableOf recordIn headerIn slotIn decodeTable decodeFiles decodeRecord decodeEntries decodeHeader sector storeAt newVolume newFiles repeated sectorAfter encodeTable fileBytes encodeRecord entryBytes encodeHeader padded
 not-through-commit h = false≢true h.1.0
 
 -- ------------------------------------------------------------------ the claims hold of this volume
 steady-here : ReadersSteady → (steps : List Step) → Steadily table (started fresh) steps
-unfolding format formatTests lengthFits shapeFits endFits first all files_of sectorAfter
+unfolding format formatTests lengthFits shapeFits endFits first all filesOf sectorAfter
 steady-here h = h (replicate 2304 0xEE) 2 shape refl
 
 while-here : SteadyWhile → (before steps : List Step) (k f p : ℕ) → IsClient table k → IsPage table f p → let r = ranOver (started fresh) before in
     ReadsThrough r k f steps → Unchanged r (ranOver r steps) k f p
-unfolding format formatTests lengthFits shapeFits endFits first all files_of sectorAfter
+unfolding format formatTests lengthFits shapeFits endFits first all filesOf sectorAfter
 while-here h = h (replicate 2304 0xEE) 2 shape refl
 
 -- Clients 1 and 2 share file 1, with a budget of 1 for each call.
@@ -149,7 +149,7 @@ sharing-is = refl
 
 shared : (answersTo (started fresh) 1 (sharing 1 2 1) ≡ done 1 ∷ done 1 ∷ done 0 ∷ done 0 ∷ [])
     × ((calledAll (started fresh) 1 (sharing 1 2 1)).session ≡ both)
-unfolding modelCall call tests plan beginPlan openReadPlan withBit recovery heldFiles cut_at allStores first sessionFits markFits clientHoldsFit holdFits isReading sound lawful canonical encoded all view table_of recordIn headerIn slotIn decodeTable decodeFiles decodeRecord decodeEntries decodeHeader sector storeAt newVolume newFiles repeated sectorAfter encodeTable fileBytes encodeRecord entryBytes encodeHeader padded
+unfolding modelCall call tests plan beginPlan openReadPlan withBit recovery heldFiles cutAt allStores first sessionFits markFits clientHoldsFit holdFits isReading sound lawful canonical encoded all view tableOf recordIn headerIn slotIn decodeTable decodeFiles decodeRecord decodeEntries decodeHeader sector storeAt newVolume newFiles repeated sectorAfter encodeTable fileBytes encodeRecord entryBytes encodeHeader padded
 shared = (refl, refl)
 
 share-all : ReadersShare → (j k f budget : ℕ) → let r = started fresh in
@@ -157,5 +157,5 @@ share-all : ReadersShare → (j k f budget : ℕ) → let r = started fresh in
     → (answersTo r budget (sharing j k f) ≡ done 1 ∷ done 1 ∷ done 0 ∷ done 0 ∷ [])
     × (isReading (calledAll r budget (sharing j k f)).session j f ≡ true)
     × (isReading (calledAll r budget (sharing j k f)).session k f ≡ true)
-unfolding format formatTests lengthFits shapeFits endFits first all files_of sectorAfter
+unfolding format formatTests lengthFits shapeFits endFits first all filesOf sectorAfter
 share-all h = h (replicate 2304 0xEE) 2 shape refl

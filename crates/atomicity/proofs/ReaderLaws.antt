@@ -16,9 +16,9 @@ use Rattle.interface.specs.Answers.{done, crashed, refused}
 use Rattle.lists.specs.Lists.{if◌then◌else◌, first}
 use Rattle.sector.specs.Contents.{Bytes, Table}
 use Rattle.sector.specs.Entries.{forPage}
-use Rattle.lists.proofs.ListLaws.{and_left}
+use Rattle.lists.proofs.ListLaws.{and-left}
 use Rattle.lists.proofs.CaseLaws.{if-test}
-use Rattle.lists.proofs.SearchLaws.{or-true, find_none}
+use Rattle.lists.proofs.SearchLaws.{or-true, find-none}
 use Rattle.volume.specs.Places.{fileAt, IsClient, IsFile, IsPage}
 use Rattle.volume.specs.Views.{View}
 use Rattle.volume.specs.Volumes.{Volume, view}
@@ -50,7 +50,7 @@ module _ {a : View} {s : Session} {k f : ℕ} (ok : Ready a s) (x : Reader s k f
 
   -- No active client has a page of it pending.
   none-pending : (j p : ℕ) → Active s j → pendingIn a j f p ≡ none
-  none-pending j p w = rw (find_none (forPage f p) (a.records j).entries
+  none-pending j p w = rw (find-none (forPage f p) (a.records j).entries
       (running-foreign (ok.runs j w) f (λ e. omega (arith, w.low, e, (ok.reads k f x).free)) (λ e. eqb e.page p)))
 
   -- Nor has the reader itself, in the model.
@@ -97,7 +97,7 @@ module _ (v : Volume) (s : Session) (m : Model) (h : Matches (view v) s m) (ok :
   -- The reader writes other files.
   written : (j g q : ℕ) (d : Bytes) → Allowed (view v) s (write j g q d) → k ≡ j → withPage g q d (m'.pending j) f p ≡ none
   written j g q d w e = if-test (λ (o : Option Bytes). o ≡ none) (eqb f g && eqb p q) (some d) (m'.pending j f p)
-      (λ z. let same : f ≡ g = eqb-true f g (and_left (eqb f g) (eqb p q) z) in
+      (λ z. let same : f ≡ g = eqb-true f g (and-left (eqb f g) (eqb p q) z) in
       absurd (omega (arith, x.low, e, rw (← same) at w.holder, (ok.reads k f x).free)))
       (λ z. rw (← e) start.1)
 

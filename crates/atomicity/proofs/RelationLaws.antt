@@ -15,8 +15,8 @@ use Rattle.interface.specs.declared.Session.{Session}
 use Rattle.interface.specs.Answers.{newSession, done, crashed}
 use Rattle.lists.specs.Lists.{if◌then◌else◌}
 use Rattle.sector.specs.Contents.{Bytes, Entry, Record}
-use Rattle.lists.proofs.ListLaws.{no_both}
-use Rattle.lists.proofs.CaseLaws.{by_equal, if-test}
+use Rattle.lists.proofs.ListLaws.{no-both}
+use Rattle.lists.proofs.CaseLaws.{by-equal, if-test}
 use Rattle.volume.specs.Places.{fileAt}
 use Rattle.volume.specs.Views.{View, Update, changedBy}
 use Rattle.volume.proofs.PlaceLaws.{IsFile}
@@ -24,7 +24,7 @@ use Rattle.volume.proofs.AlongLaws.{along-take, along-end, changed-table}
 use Rattle.rules.specs.Sessions.{isActive, setActive, withReading, withoutReader, holdsEither, noneActive}
 use Rattle.rules.specs.Plans.{Call, begin, openFile, openRead, write, commit, abort, entryFor, chosen, beginPlan, writePlan, plan, sessionAfter}
 use Rattle.rules.specs.Content.{decidedContent}
-use Rattle.rules.proofs.SessionLaws.{none-active, set_same, set_other, set-marks}
+use Rattle.rules.proofs.SessionLaws.{none-active, set-same, set-other, set-marks}
 use Rattle.rules.proofs.AllowedLaws.{Active, Others, MayBegin, MayAct, MayOpenRead, MayWrite, Allowed, own-record}
 use Rattle.rules.proofs.RecoveryLaws.{decidedView}
 use Rattle.atomicity.specs.Model.{noPending, Model, emptied, withPending, withPage, committed, isDeciding, effect}
@@ -59,7 +59,7 @@ pub faithful : (a : View) (s : Session) (m : Model) → Matches a s m → Faithf
 faithful a s m h = if-test (Faithful a s) (noneActive s) (emptied m) m
     (λ e. record {
       pages = h.pages;
-      tracked = λ k lo hi. record { active = λ on. no_both _ on (none-active s k e); idle = λ off. refl };
+      tracked = λ k lo hi. record { active = λ on. no-both _ on (none-active s k e); idle = λ off. refl };
       marks = h.marks;
     })
     (λ e. record { pages = h.pages; tracked = h.tracked e; marks = h.marks })
@@ -92,7 +92,7 @@ own-matches : {k : ℕ} {a b : View} {s s' : Session} {m m' : Model} → Faithfu
     → ((j : ℕ) → j ≢ k → m'.pending j ≡ m.pending j)
     → (1 ≤ k → k ≤ 4 → Tracked b s' m' k) → PagesMatch b m' → length s'.active ≡ 4 → Matches b s' m'
 own-matches {k} {b = b} {s} {s'} {m' = m'} h others marks pending own pages four =
-    let tracked : (j : ℕ) → 1 ≤ j → j ≤ 4 → Tracked b s' m' j = λ j lo hi. by_equal j k
+    let tracked : (j : ℕ) → 1 ≤ j → j ≤ 4 → Tracked b s' m' j = λ j lo hi. by-equal j k
     (λ e. rw e (own (rw e at lo) (rw e at hi)))
     (λ n. record {
       active = λ on.
@@ -117,10 +117,10 @@ module _ (a : View) (s : Session) (m : Model) (h : Faithful a s m) where
   unfolding plan
   begin-outcome k w = record {
     crashes = prefix-pages m h.pages (begin-along w);
-    ends = λ n. own-matches h (kept-pending (begin-along w)) (λ j lo n. set_other s k j true w.low lo n) (λ j n. refl)
+    ends = λ n. own-matches h (kept-pending (begin-along w)) (λ j lo n. set-other s k j true w.low lo n) (λ j n. refl)
         (λ lo hi. record {
           active = λ on. (h.tracked k lo hi).idle w.off ∙ sym none-given;
-          idle = λ off. no_both _ (set_same s k true h.marks lo hi) off;
+          idle = λ off. no-both _ (set-same s k true h.marks lo hi) off;
         })
         (end-pages m h.pages (begin-along w)) (set-marks s k true h.marks);
   }
@@ -135,7 +135,7 @@ module _ (a : View) (s : Session) (m : Model) (h : Faithful a s m) where
     ends = λ n. own-matches h (kept-pending along) (λ j lo n. refl) (λ j n. rw (ne_eqb j k n))
         (λ lo hi. record {
           active = λ on. rw (eq-eqb k k refl, (h.tracked k lo hi).active on) (written (entryFor a k f p) refl);
-          idle = λ off. no_both _ w.place.act.active.on off;
+          idle = λ off. no-both _ w.place.act.active.on off;
         })
         (end-pages m h.pages along) h.marks;
   }
@@ -153,10 +153,10 @@ module _ (a : View) (s : Session) (m : Model) (h : Faithful a s m) where
     -- Commit and abort unmark k and end its reading holds, and leave none of its pages pending.
     ended : (b : View) (m' : Model) → ((j : ℕ) → m'.pending j ≡ (if eqb j k then noPending else m.pending j))
         → ((j : ℕ) → Others s k j → pendingIn b j ≡ pendingIn a j) → PagesMatch b m' → Matches b (withoutReader (setActive s k false) k) m'
-    ended b m' pending others pages = own-matches h others (λ j lo n. set_other s k j false w.active.low lo n)
+    ended b m' pending others pages = own-matches h others (λ j lo n. set-other s k j false w.active.low lo n)
         (λ j n. pending j ∙ rw (ne_eqb j k n))
         (λ lo hi. record {
-          active = λ on. no_both _ on (set_same s k false h.marks lo hi);
+          active = λ on. no-both _ on (set-same s k false h.marks lo hi);
           idle = λ off. pending k ∙ rw (eq-eqb k k refl);
         })
         pages (set-marks s k false h.marks)

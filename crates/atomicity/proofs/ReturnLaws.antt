@@ -15,14 +15,14 @@ use lib.ListN.{length}
 use Rattle.interface.specs.declared.Session.{Session}
 use Rattle.lists.specs.Lists.{every}
 use Rattle.sector.specs.Contents.{Bytes, Entry, Record}
-use Rattle.lists.proofs.ListLaws.{no_both}
-use Rattle.lists.proofs.CaseLaws.{by_equal, if-test}
+use Rattle.lists.proofs.ListLaws.{no-both}
+use Rattle.lists.proofs.CaseLaws.{by-equal, if-test}
 use Rattle.lists.proofs.SearchLaws.{every-implies, every-end}
 use Rattle.volume.specs.Views.{View, Update, changedBy}
 use Rattle.volume.proofs.AlongLaws.{along-end, changed-table}
 use Rattle.rules.specs.Sessions.{isActive, setActive, withReading, holdsEither}
 use Rattle.rules.specs.Plans.{Call, begin, openFile, openRead, write, commit, abort, entryFor, chosen, beginPlan, writePlan, plan, sessionAfter}
-use Rattle.rules.proofs.SessionLaws.{set_same, set_other, set-marks, set_words}
+use Rattle.rules.proofs.SessionLaws.{set-same, set-other, set-marks, set-words}
 use Rattle.rules.proofs.AllowedLaws.{Active, Others, Running, MayBegin, MayAct, MayWrite, Allowed}
 use Rattle.atomicity.proofs.KeepLaws.{Untouched}
 use Rattle.atomicity.proofs.PlanLaws.{KeptAlong, abort-along, begin-along, begin-opens, open-along, open-read-along}
@@ -30,10 +30,10 @@ use Rattle.atomicity.proofs.WriteLaws.{write-along, commit-along}
 
 -- ------------------------------------------------------------------ clients that are left alone
 -- Every client that is active at the end has a transaction running: one other than k was active, and has what it had.
-runs_after : {a : View} {s s' : Session} {k : ℕ} {xs : List Update} → KeptAlong a s k a xs
+runs-after : {a : View} {s s' : Session} {k : ℕ} {xs : List Update} → KeptAlong a s k a xs
     → ((j : ℕ) → 1 ≤ j → j ≢ k → isActive s' j ≡ isActive s j) → ((j : ℕ) → Others s k j → Running a j)
     → (Active s' k → Running (changedBy a xs) k) → (j : ℕ) → Active s' j → Running (changedBy a xs) j
-runs_after {a} {s} {k = k} {xs} along marks runs own j w = by_equal j k (λ e. rw e (own (rw e at w)))
+runs-after {a} {s} {k = k} {xs} along marks runs own j w = by-equal j k (λ e. rw e (own (rw e at w)))
     (λ n.
     let o : Others s k j = record { active = record { low = w.low; high = w.high; on = sym (marks j w.low n) ∙ w.on }; other = n } in
     let u : Untouched a j (changedBy a xs) = (along-end along).others j o in
@@ -48,7 +48,7 @@ runs_after {a} {s} {k = k} {xs} along marks runs own j w = by_equal j k (λ e. r
 -- ------------------------------------------------------------------ each call
 module _ (a : View) (s : Session) (marks : length s.active ≡ 4) where
   begin-runs : (k : ℕ) → MayBegin a s k → (j : ℕ) → Active (setActive s k true) j → Running (changedBy a (beginPlan a s k)) j
-  begin-runs k w = runs_after (begin-along w) (λ j lo n. set_other s k j true w.low lo n) (λ j o. w.ready.runs j o.active)
+  begin-runs k w = runs-after (begin-along w) (λ j lo n. set-other s k j true w.low lo n) (λ j o. w.ready.runs j o.active)
       (λ x. record {
         client = rw (changed-table (beginPlan a s k) a) w.high;
         state = ap (λ (r : Record). r.state) (begin-opens a s k);
@@ -57,7 +57,7 @@ module _ (a : View) (s : Session) (marks : length s.active ≡ 4) where
 
   write-runs : (k f p : ℕ) (d : Bytes) → MayWrite a s k f p d → (j : ℕ) → Active s j
       → Running (changedBy a (writePlan a k f p d (entryFor a k f p))) j
-  write-runs k f p d w = runs_after (write-along w (entryFor a k f p) refl) (λ j lo n. refl)
+  write-runs k f p d w = runs-after (write-along w (entryFor a k f p) refl) (λ j lo n. refl)
       (λ j o. w.place.act.ready.runs j o.active) (λ x. own (entryFor a k f p))
     where
       r : Running a k
@@ -76,13 +76,13 @@ module _ (a : View) (s : Session) (marks : length s.active ≡ 4) where
   opened-runs : {k : ℕ} {s' : Session} {xs : List Update} → MayAct a s k → KeptAlong a s 0 a xs → s'.active ≡ s.active
       → (j : ℕ) → Active s' j → Running (changedBy a xs) j
   opened-runs w along same =
-      runs_after along (λ j lo n. rw same) (λ j o. w.ready.runs j o.active) (λ x. absurd (omega (arith, x.low)))
+      runs-after along (λ j lo n. rw same) (λ j o. w.ready.runs j o.active) (λ x. absurd (omega (arith, x.low)))
 
   -- Commit and abort, whatever reading holds there are then.
   ended-runs : {k : ℕ} {b : View} {s' : Session} {xs : List Update} → MayAct a s k → KeptAlong b s k b xs → s'.active ≡ (setActive s k false).active
       → ((j : ℕ) → Others s k j → Running b j) → (j : ℕ) → Active s' j → Running (changedBy b xs) j
-  ended-runs {k} w along same runs = runs_after along (λ j lo n. rw same (set_other s k j false w.active.low lo n)) runs
-      (λ x. no_both _ (rw same at x.on) (set_same s k false marks w.active.low w.active.high))
+  ended-runs {k} w along same runs = runs-after along (λ j lo n. rw same (set-other s k j false w.active.low lo n)) runs
+      (λ x. no-both _ (rw same at x.on) (set-same s k false marks w.active.low w.active.high))
 
   -- Opening for reading leaves the marks.
   read-marks : (k f : ℕ) → (sessionAfter a s (openRead k f)).active ≡ s.active
@@ -110,9 +110,9 @@ module _ (a : View) (s : Session) (marks : length s.active ≡ 4) where
 -- The words of reading holds stay four.
 pub returned-words : (a : View) (s : Session) → length s.reading ≡ 4 → (c : Call) → length (sessionAfter a s c).reading ≡ 4
 returned-words a s words (begin k) = words
-returned-words a s words (openFile k f) = set_words s k _ words
+returned-words a s words (openFile k f) = set-words s k _ words
 returned-words a s words (openRead k f) =
-    if-test (λ (s' : Session). length s'.reading ≡ 4) (holdsEither a s k f) s (withReading s k f) (λ e. words) (λ e. set_words s k _ words)
+    if-test (λ (s' : Session). length s'.reading ≡ 4) (holdsEither a s k f) s (withReading s k f) (λ e. words) (λ e. set-words s k _ words)
 returned-words a s words (write k f p d) = words
-returned-words a s words (commit k) = set_words (setActive s k false) k 0 words
-returned-words a s words (abort k) = set_words (setActive s k false) k 0 words
+returned-words a s words (commit k) = set-words (setActive s k false) k 0 words
+returned-words a s words (abort k) = set-words (setActive s k false) k 0 words

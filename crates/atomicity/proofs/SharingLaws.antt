@@ -21,7 +21,7 @@ use Rattle.volume.proofs.FormatLaws.{new-table, new-record, new-header, new-fine
 use Rattle.rules.specs.Sessions.{isActive, setActive, isReading, withReading, sessionFits}
 use Rattle.rules.specs.Plans.{begin, openRead, beginPlan, openReadPlan, plan, sessionAfter}
 use Rattle.rules.specs.Refusals.{tests}
-use Rattle.rules.proofs.SessionLaws.{new-inactive, set_same, set_other, set-marks, new-unread, active-reading, reading-other, set_words, with-reading}
+use Rattle.rules.proofs.SessionLaws.{new-inactive, set-same, set-other, set-marks, new-unread, active-reading, reading-other, set-words, with-reading}
 use Rattle.atomicity.specs.Runs.{Configuration, started}
 use Rattle.atomicity.specs.NonVacuity.{calledAll, answersTo}
 use Rattle.atomicity.specs.Readers.{sharing, ReadersShare}
@@ -71,14 +71,14 @@ module _ (a : View) (j k f : ℕ) (cj : IsClient a.table j) (ck : IsClient a.tab
   other : k ≢ j
   other e = ne (sym e)
 
-  k_off : isActive one k ≡ false
-  k_off = set_other newSession j k true cj.low ck.low other ∙ new-inactive k
+  k-off : isActive one k ≡ false
+  k-off = set-other newSession j k true cj.low ck.low other ∙ new-inactive k
 
   j-on : isActive two j ≡ true
-  j-on = set_other one k j true ck.low cj.low ne ∙ set_same newSession j true refl cj.low (omega (arith, cj.high, four))
+  j-on = set-other one k j true ck.low cj.low ne ∙ set-same newSession j true refl cj.low (omega (arith, cj.high, four))
 
   k-on : isActive two k ≡ true
-  k-on = set_same one k true (set-marks newSession j true refl) ck.low (omega (arith, ck.high, four))
+  k-on = set-same one k true (set-marks newSession j true refl) ck.low (omega (arith, ck.high, four))
 
   unread : (i : ℕ) → isReading two i f ≡ false
   unread i = active-reading one k true i f ∙ active-reading newSession j true i f ∙ new-unread i f
@@ -96,7 +96,7 @@ module _ (a : View) (j k f : ℕ) (cj : IsClient a.table j) (ck : IsClient a.tab
   shares r budget start le =
       let b = advance (begin j) _ budget start (begin-passes a newSession j f cj (new-inactive j))
       (begin-makes a newSession j f cj (new-inactive j) (idle j cj)) refl le in
-      let c = advance (begin k) _ budget b.1 (begin-passes _ one k f ck k_off) (begin-makes _ one k f ck k_off k-idle) refl le in
+      let c = advance (begin k) _ budget b.1 (begin-passes _ one k f ck k-off) (begin-makes _ one k f ck k-off k-idle) refl le in
       let d = advance (openRead j f) _ budget c.1 (read-passes begun two j f cj file free j-on)
       (read-makes begun two j f cj file free (unread j)) (read-notes begun two j f cj file free (unread j)) (omega arith) in
       let e = advance (openRead k f) _ budget d.1 (read-passes begun three k f ck file free k-on)
@@ -104,7 +104,7 @@ module _ (a : View) (j k f : ℕ) (cj : IsClient a.table j) (ck : IsClient a.tab
         rw (b.0, c.0, d.0, e.0),
         rw e.1.session (reading-other three k ck.low _ j f cj.low ne
             ∙ with-reading two j cj.low refl (omega (arith, cj.high, four)) f),
-        rw e.1.session (with-reading three k ck.low (set_words two j _ refl) (omega (arith, ck.high, four)) f),
+        rw e.1.session (with-reading three k ck.low (set-words two j _ refl) (omega (arith, ck.high, four)) f),
       )
 
 -- ------------------------------------------------------------------ on a formatted volume

@@ -18,11 +18,11 @@ use Rattle.sector.specs.Sectors.{sector, storeAt, padded}
 use Rattle.sector.specs.Encoding.{fileBytes, encodeTable, entryBytes, encodeRecord, encodeHeader}
 use Rattle.sector.specs.Decoding.{decodeFiles, decodeTable, decodeEntries, decodeRecord, decodeHeader}
 use Rattle.volume.specs.Places.{sectorAfter}
-use Rattle.volume.specs.Volumes.{Volume, table_of, recordIn, headerIn, slotIn, view}
-use Rattle.volume.specs.Stores.{cut_at, allStores}
+use Rattle.volume.specs.Volumes.{Volume, tableOf, recordIn, headerIn, slotIn, view}
+use Rattle.volume.specs.Stores.{cutAt, allStores}
 use Rattle.volume.specs.Lawful.{lawful}
 use Rattle.volume.specs.Sound.{encoded, canonical, sound}
-use Rattle.sector.specs.Shapes.{files_of}
+use Rattle.sector.specs.Shapes.{filesOf}
 use Rattle.volume.specs.Format.{lengthFits, shapeFits, endFits, formatTests, repeated, newFiles, newVolume, format}
 use Rattle.rules.specs.Sessions.{isReading, isReadByOther, markFits, clientHoldsFit, sessionFits}
 use Rattle.rules.specs.Recovery.{heldFiles, recovery}
@@ -75,15 +75,15 @@ startsWith0 d = eqb (get_or d 0 1) 0
 -- ------------------------------------------------------------------ AllOrNone: PagesAgree, ContentAgrees
 -- Another content of the first file's first page, of its last page, or of the last file.
 content-of-page : PagesAgree table newModel (spoilt 4) → ⊥
-unfolding view table_of recordIn headerIn slotIn decodeTable decodeFiles decodeRecord decodeEntries decodeHeader sector storeAt newVolume newFiles repeated sectorAfter encodeTable fileBytes encodeRecord entryBytes encodeHeader padded
+unfolding view tableOf recordIn headerIn slotIn decodeTable decodeFiles decodeRecord decodeEntries decodeHeader sector storeAt newVolume newFiles repeated sectorAfter encodeTable fileBytes encodeRecord entryBytes encodeHeader padded
 content-of-page h = false≢true (ap startsWith0 (h 1 0 (omega arith) (omega arith) (omega arith)))
 
 content-of-last-page : PagesAgree table newModel (spoilt 5) → ⊥
-unfolding view table_of recordIn headerIn slotIn decodeTable decodeFiles decodeRecord decodeEntries decodeHeader sector storeAt newVolume newFiles repeated sectorAfter encodeTable fileBytes encodeRecord entryBytes encodeHeader padded
+unfolding view tableOf recordIn headerIn slotIn decodeTable decodeFiles decodeRecord decodeEntries decodeHeader sector storeAt newVolume newFiles repeated sectorAfter encodeTable fileBytes encodeRecord entryBytes encodeHeader padded
 content-of-last-page h = false≢true (ap startsWith0 (h 1 1 (omega arith) (omega arith) (omega arith)))
 
 content-of-last-file : ContentAgrees table (run (spoilt 8) newSession newModel) → ⊥
-unfolding view table_of recordIn headerIn slotIn decodeTable decodeFiles decodeRecord decodeEntries decodeHeader sector storeAt newVolume newFiles repeated sectorAfter encodeTable fileBytes encodeRecord entryBytes encodeHeader padded
+unfolding view tableOf recordIn headerIn slotIn decodeTable decodeFiles decodeRecord decodeEntries decodeHeader sector storeAt newVolume newFiles repeated sectorAfter encodeTable fileBytes encodeRecord entryBytes encodeHeader padded
 content-of-last-file h = false≢true (ap startsWith0 (h 2 0 (omega arith) (omega arith) (omega arith)))
 
 -- ------------------------------------------------------------------ AllOrNone: QueryAgrees, StepAgrees, Agrees
@@ -94,7 +94,7 @@ unfolding sector storeAt newVolume newFiles repeated sectorAfter encodeTable fil
 wrong-sector s h = false≢true (ap startsWith0 h.0)
 
 wrong-part : QueryAgrees begun newSession newModel (readPage 1 1 0) (found 4) → ⊥
-unfolding query queryTests first sessionFits markFits clientHoldsFit isReading sound lawful canonical encoded all view table_of recordIn headerIn decodeTable decodeFiles decodeRecord decodeEntries decodeHeader sector storeAt newVolume newFiles repeated sectorAfter encodeTable fileBytes encodeRecord entryBytes encodeHeader padded
+unfolding query queryTests first sessionFits markFits clientHoldsFit isReading sound lawful canonical encoded all view tableOf recordIn headerIn decodeTable decodeFiles decodeRecord decodeEntries decodeHeader sector storeAt newVolume newFiles repeated sectorAfter encodeTable fileBytes encodeRecord entryBytes encodeHeader padded
 wrong-part h = false≢true (ap startsWith0 h.1)
 
 -- A read that is refused shows nothing.
@@ -103,16 +103,16 @@ refused-query v s m q n = tt
 
 -- Client 1 reads zeros where it has sevens pending: that doesn't agree. After a crash the same read is refused.
 wrong-step : StepAgrees (run begun active1 pending7) (asks false (readPage 1 1 0)) → ⊥
-unfolding query queryTests first sessionFits markFits clientHoldsFit isReading sound lawful canonical encoded all view table_of recordIn headerIn decodeTable decodeFiles decodeRecord decodeEntries decodeHeader sector storeAt newVolume newFiles repeated sectorAfter encodeTable fileBytes encodeRecord entryBytes encodeHeader padded
+unfolding query queryTests first sessionFits markFits clientHoldsFit isReading sound lawful canonical encoded all view tableOf recordIn headerIn decodeTable decodeFiles decodeRecord decodeEntries decodeHeader sector storeAt newVolume newFiles repeated sectorAfter encodeTable fileBytes encodeRecord entryBytes encodeHeader padded
 wrong-step h = false≢true (ap (λ (d : Bytes). eqb (get_or d 0 1) 7) h.0)
 
 crashed-step : StepAgrees (run begun active1 pending7) (asks true (readPage 1 1 0))
-unfolding query queryTests first sessionFits markFits clientHoldsFit isReading sound lawful canonical encoded all view table_of recordIn headerIn decodeTable decodeFiles decodeRecord decodeEntries decodeHeader sector storeAt newVolume newFiles repeated sectorAfter encodeTable fileBytes encodeRecord entryBytes encodeHeader padded
+unfolding query queryTests first sessionFits markFits clientHoldsFit isReading sound lawful canonical encoded all view tableOf recordIn headerIn decodeTable decodeFiles decodeRecord decodeEntries decodeHeader sector storeAt newVolume newFiles repeated sectorAfter encodeTable fileBytes encodeRecord entryBytes encodeHeader padded
 crashed-step = tt
 
 -- Of a call nothing is asked by itself.
-call_step : (r : Configuration) (crash : Bool) (c : Call) (budget : ℕ) → StepAgrees r (calls crash c budget)
-call_step r crash c budget = tt
+call-step : (r : Configuration) (crash : Bool) (c : Call) (budget : ℕ) → StepAgrees r (calls crash c budget)
+call-step r crash c budget = tt
 
 -- A wrong content at the end; before a step, though the step may be any; after it: client 1 commits sevens that the volume
 -- doesn't have.
@@ -126,12 +126,12 @@ wrong-read : (xs : List Step) → Agrees table (run begun active1 pending7) (ask
 wrong-read xs h = wrong-step h.1
 
 wrong-after : Agrees table (run begun active1 pending7) (calls false (commit 1) 3 ∷ []) → ⊥
-unfolding stepped modelCall call tests plan recovery heldFiles redone cut_at allStores first sessionFits markFits clientHoldsFit isReading sound lawful canonical encoded all view table_of recordIn headerIn slotIn decodeTable decodeFiles decodeRecord decodeEntries decodeHeader sector storeAt newVolume newFiles repeated sectorAfter encodeTable fileBytes encodeRecord entryBytes encodeHeader padded
+unfolding stepped modelCall call tests plan recovery heldFiles redone cutAt allStores first sessionFits markFits clientHoldsFit isReading sound lawful canonical encoded all view tableOf recordIn headerIn slotIn decodeTable decodeFiles decodeRecord decodeEntries decodeHeader sector storeAt newVolume newFiles repeated sectorAfter encodeTable fileBytes encodeRecord entryBytes encodeHeader padded
 wrong-after h = false≢true (ap (λ (d : Bytes). eqb (get_or d 0 1) 7) (h.2 1 0 (omega arith) (omega arith) (omega arith)))
 
 -- The claim holds of this volume and of every list of steps on it.
 all-or-none-here : AllOrNone → (steps : List Step) → Agrees table (started fresh) steps
-unfolding format formatTests lengthFits shapeFits endFits first all files_of sectorAfter
+unfolding format formatTests lengthFits shapeFits endFits first all filesOf sectorAfter
 all-or-none-here h = h (replicate 2304 0xEE) 2 shape refl
 
 -- ------------------------------------------------------------------ NonVacuity: refusals
@@ -144,31 +144,31 @@ step-refusals : map (stepRefusal (run begun active1 newModel))
     (calls false (abort 1) 3 ∷ calls true (abort 1) 3 ∷ calls false (abort 1) 0 ∷ asks false (readPage 1 1 1) ∷ asks true (readPage 1 1 1)
     ∷ asks false (readPage 1 1 2) ∷ asks false (readPage 1 2 0) ∷ asks false (readPage 2 1 0) ∷ [])
     ≡ 0 ∷ 5 ∷ 0 ∷ 0 ∷ 5 ∷ 9 ∷ 8 ∷ 5 ∷ []
-unfolding call tests query queryTests plan recovery heldFiles allStores first sessionFits markFits clientHoldsFit isReading sound lawful canonical encoded all view table_of recordIn headerIn decodeTable decodeFiles decodeRecord decodeEntries decodeHeader sector storeAt newVolume newFiles repeated sectorAfter encodeTable fileBytes encodeRecord entryBytes encodeHeader padded
+unfolding call tests query queryTests plan recovery heldFiles allStores first sessionFits markFits clientHoldsFit isReading sound lawful canonical encoded all view tableOf recordIn headerIn decodeTable decodeFiles decodeRecord decodeEntries decodeHeader sector storeAt newVolume newFiles repeated sectorAfter encodeTable fileBytes encodeRecord entryBytes encodeHeader padded
 step-refusals = refl
 
 -- A volume that isn't sound isn't accepted, nor is a session that marks a client which hasn't begun; nor at a later step: after
 -- a crash the session is a new one, and then the wrong one is given again.
 unsound-not-accepted : Accepted (run (set fresh 0 0) newSession newModel) (calls false (begin 1) 3 ∷ []) → ⊥
-unfolding call tests first sound lawful canonical encoded all view table_of recordIn headerIn decodeTable decodeFiles decodeRecord decodeEntries decodeHeader sector newVolume newFiles repeated sectorAfter encodeTable fileBytes encodeRecord entryBytes encodeHeader padded
+unfolding call tests first sound lawful canonical encoded all view tableOf recordIn headerIn decodeTable decodeFiles decodeRecord decodeEntries decodeHeader sector newVolume newFiles repeated sectorAfter encodeTable fileBytes encodeRecord entryBytes encodeHeader padded
 unsound-not-accepted h = h.0 refl
 
 session-not-accepted : Accepted (run fresh active1 newModel) (asks true (readPage 1 1 0) ∷ calls false (begin 2) 3 ∷ []) → ⊥
-unfolding stepped call tests first sessionFits markFits clientHoldsFit isReading sound lawful canonical encoded all view table_of recordIn headerIn decodeTable decodeFiles decodeRecord decodeEntries decodeHeader sector newVolume newFiles repeated sectorAfter encodeTable fileBytes encodeRecord entryBytes encodeHeader padded
+unfolding stepped call tests first sessionFits markFits clientHoldsFit isReading sound lawful canonical encoded all view tableOf recordIn headerIn decodeTable decodeFiles decodeRecord decodeEntries decodeHeader sector newVolume newFiles repeated sectorAfter encodeTable fileBytes encodeRecord entryBytes encodeHeader padded
 session-not-accepted h = h.2.1 refl
 
 -- Each step is judged by what the one before left: the crash takes the wrong session away, and begin makes a right one of it.
 begun-accepted : Accepted (run fresh active1 newModel) (calls true (begin 1) 3 ∷ calls false (begin 2) 3 ∷ [])
-unfolding stepped modelCall call tests plan beginPlan recovery heldFiles cut_at allStores first sessionFits markFits clientHoldsFit isReading sound lawful canonical encoded all view table_of recordIn headerIn decodeTable decodeFiles decodeRecord decodeEntries decodeHeader sector storeAt newVolume newFiles repeated sectorAfter encodeTable fileBytes encodeRecord entryBytes encodeHeader padded
+unfolding stepped modelCall call tests plan beginPlan recovery heldFiles cutAt allStores first sessionFits markFits clientHoldsFit isReading sound lawful canonical encoded all view tableOf recordIn headerIn decodeTable decodeFiles decodeRecord decodeEntries decodeHeader sector storeAt newVolume newFiles repeated sectorAfter encodeTable fileBytes encodeRecord entryBytes encodeHeader padded
 begun-accepted = (λ e. false≢true (ap (eqb 1) e), λ e. false≢true (ap (eqb 2) e), (λ e. false≢true (ap (eqb 1) e), λ e. false≢true (ap (eqb 2) e), tt))
 
 -- The claims hold of this volume.
 stays-sound-here : StaysSound → (s : Session) (c : Call) (budget : ℕ) → sound (call fresh s c budget).volume ≡ true
-unfolding sound lawful canonical encoded all view table_of recordIn headerIn decodeTable decodeFiles decodeRecord decodeEntries decodeHeader sector newVolume newFiles repeated sectorAfter encodeTable fileBytes encodeRecord entryBytes encodeHeader padded
+unfolding sound lawful canonical encoded all view tableOf recordIn headerIn decodeTable decodeFiles decodeRecord decodeEntries decodeHeader sector newVolume newFiles repeated sectorAfter encodeTable fileBytes encodeRecord entryBytes encodeHeader padded
 stays-sound-here h s c budget = h fresh s c budget refl
 
 accepted-here : AlwaysAccepted → (steps : List Step) → Accepted (started fresh) steps
-unfolding format formatTests lengthFits shapeFits endFits first all files_of sectorAfter
+unfolding format formatTests lengthFits shapeFits endFits first all filesOf sectorAfter
 accepted-here h = h (replicate 2304 0xEE) 2 shape refl
 
 -- ------------------------------------------------------------------ NonVacuity: writes take effect
@@ -178,21 +178,21 @@ writing-is d = refl
 -- Client 2 writes page 1 of file 1: with 3 stores allowed for each call, and with 2, when the commit crashes.
 answers-to : answersTo (started fresh) 3 (writing 2 1 1 (page 7)) ++ answersTo (started fresh) 2 (writing 2 1 1 (page 7))
     ≡ done 1 ∷ done 1 ∷ done 2 ∷ done 3 ∷ done 1 ∷ done 1 ∷ done 2 ∷ crashed 2 ∷ []
-unfolding modelCall call tests plan beginPlan openPlan isReadByOther withoutBit chosen freeSlots recovery heldFiles redone cut_at allStores first sessionFits markFits clientHoldsFit isReading sound lawful canonical encoded all view table_of recordIn headerIn decodeTable decodeFiles decodeRecord decodeEntries decodeHeader sector storeAt newVolume newFiles repeated sectorAfter encodeTable fileBytes encodeRecord entryBytes encodeHeader padded
+unfolding modelCall call tests plan beginPlan openPlan isReadByOther withoutBit chosen freeSlots recovery heldFiles redone cutAt allStores first sessionFits markFits clientHoldsFit isReading sound lawful canonical encoded all view tableOf recordIn headerIn decodeTable decodeFiles decodeRecord decodeEntries decodeHeader sector storeAt newVolume newFiles repeated sectorAfter encodeTable fileBytes encodeRecord entryBytes encodeHeader padded
 answers-to = refl
 
 -- The run after the first three of them: the session is the one last handed back, and the page is pending.
 called-all : let r = calledAll (started fresh) 2 (begin 2 ∷ openFile 2 1 ∷ write 2 1 1 (page 7) ∷ []) in
     (r.session ≡ active2) × (sector r.volume 6 ≡ page 7)
     × (r.model.pending 2 1 1 ≡ some (page 7))
-unfolding modelCall call tests plan beginPlan openPlan isReadByOther withoutBit chosen freeSlots recovery heldFiles redone cut_at allStores first sessionFits markFits clientHoldsFit isReading sound lawful canonical encoded all view table_of recordIn headerIn decodeTable decodeFiles decodeRecord decodeEntries decodeHeader sector storeAt newVolume newFiles repeated sectorAfter encodeTable fileBytes encodeRecord entryBytes encodeHeader padded
+unfolding modelCall call tests plan beginPlan openPlan isReadByOther withoutBit chosen freeSlots recovery heldFiles redone cutAt allStores first sessionFits markFits clientHoldsFit isReading sound lawful canonical encoded all view tableOf recordIn headerIn decodeTable decodeFiles decodeRecord decodeEntries decodeHeader sector storeAt newVolume newFiles repeated sectorAfter encodeTable fileBytes encodeRecord entryBytes encodeHeader padded
 called-all = (refl, refl, refl)
 
 -- The claim holds of this volume, for its last client and the last page of the file that has a slot to spare, at a budget of 3.
 writes-here : WritesTakeEffect
     → (answersTo (started fresh) 3 (writing 2 1 1 (page 7)) ≡ done 1 ∷ done 1 ∷ done 2 ∷ done 3 ∷ [])
     × (decidedContent (view (calledAll (started fresh) 3 (writing 2 1 1 (page 7))).volume) 1 1 ≡ page 7)
-unfolding format formatTests lengthFits shapeFits endFits first all files_of sectorAfter
+unfolding format formatTests lengthFits shapeFits endFits first all filesOf sectorAfter
 writes-here h = h (replicate 2304 0xEE) 2 shape refl 2 1 1 (page 7) 3
     (record { low = omega arith; high = omega arith })
     (record { file = record { low = omega arith; high = omega arith }; below = omega arith })
@@ -210,13 +210,13 @@ events-of : map (eventOf (run begun active1 newModel)) (calls false (abort 1) 3 
     ∷ says (ofQuery (found 5)) active1 (page 0) (page 0)
     ∷ says (ofQuery (queryRefused 5)) active1 [] []
     ∷ []
-unfolding call tests query queryTests plan recovery heldFiles allStores first sessionFits markFits clientHoldsFit isReading sound lawful canonical encoded all view table_of recordIn headerIn decodeTable decodeFiles decodeRecord decodeEntries decodeHeader sector storeAt newVolume newFiles repeated sectorAfter encodeTable fileBytes encodeRecord entryBytes encodeHeader padded
+unfolding call tests query queryTests plan recovery heldFiles allStores first sessionFits markFits clientHoldsFit isReading sound lawful canonical encoded all view tableOf recordIn headerIn decodeTable decodeFiles decodeRecord decodeEntries decodeHeader sector storeAt newVolume newFiles repeated sectorAfter encodeTable fileBytes encodeRecord entryBytes encodeHeader padded
 events-of = refl
 
 -- Each step from what the one before left.
 events-in-order : eventsOf (started fresh) (calls false (begin 1) 3 ∷ calls false (begin 1) 3 ∷ calls true (begin 1) 3 ∷ [])
     ≡ says (ofCall (done 1)) active1 [] [] ∷ says (ofCall (refused 4)) active1 [] [] ∷ says (ofCall (done 2)) active1 [] [] ∷ []
-unfolding stepped call tests plan beginPlan recovery heldFiles cut_at allStores first sessionFits markFits clientHoldsFit isReading sound lawful canonical encoded all view table_of recordIn headerIn decodeTable decodeFiles decodeRecord decodeEntries decodeHeader sector storeAt newVolume newFiles repeated sectorAfter encodeTable fileBytes encodeRecord entryBytes encodeHeader padded
+unfolding stepped call tests plan beginPlan recovery heldFiles cutAt allStores first sessionFits markFits clientHoldsFit isReading sound lawful canonical encoded all view tableOf recordIn headerIn decodeTable decodeFiles decodeRecord decodeEntries decodeHeader sector storeAt newVolume newFiles repeated sectorAfter encodeTable fileBytes encodeRecord entryBytes encodeHeader padded
 events-in-order = refl
 
 -- What the model shows client 1 of page 0 of file 1 after a step: given a mark, given none, after a crash; a write; reads; and
@@ -290,5 +290,5 @@ kept-write v h = false≢true (ap startsWith0 h.1.1.0.0)
 -- The claim holds of this volume and of every list of steps on it.
 transcripts-here : TranscriptsAgree → (xs : List Step)
     → SaidAgrees table newModel newSession xs (eventsOf (started fresh) xs) (ranOver (started fresh) xs).volume
-unfolding format formatTests lengthFits shapeFits endFits first all files_of sectorAfter
+unfolding format formatTests lengthFits shapeFits endFits first all filesOf sectorAfter
 transcripts-here h = h (replicate 2304 0xEE) 2 shape refl

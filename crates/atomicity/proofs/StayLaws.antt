@@ -9,8 +9,8 @@ use lib.Dec.{eqb}
 use lib.ListN.{length}
 use Rattle.interface.specs.declared.Session.{Session}
 use Rattle.interface.specs.Answers.{crashed}
-use Rattle.lists.proofs.ListLaws.{no_both}
-use Rattle.lists.proofs.CaseLaws.{by_equal, if-test}
+use Rattle.lists.proofs.ListLaws.{no-both}
+use Rattle.lists.proofs.CaseLaws.{by-equal, if-test}
 use Rattle.volume.specs.Views.{View}
 use Rattle.volume.specs.Volumes.{Volume, view}
 use Rattle.rules.specs.Sessions.{setActive, isReading, withReading, withoutReading, withoutReader, holdsEither}
@@ -28,9 +28,9 @@ module _ (s : Session) (words : length s.reading ≡ 4) {k f : ℕ} (x : Reader 
       reading-other (setActive s j false) j w.low 0 k f x.low (λ q. eqb-false j k e (sym q)) ∙ active-reading s j false k f ∙ x.on
 
   -- Open for writing, of another file or by another client.
-  open_stays : (a : View) (j g : ℕ) → MayOpen a s j g → (eqb j k && eqb g f) ≡ false → isReading (withoutReading s j g) k f ≡ true
-  open_stays a j g w e = by_equal k j
-      (λ q. by_equal f g (λ z. no_both _ (rw (eq-eqb j k (sym q), eq-eqb g f (sym z))) e)
+  open-stays : (a : View) (j g : ℕ) → MayOpen a s j g → (eqb j k && eqb g f) ≡ false → isReading (withoutReading s j g) k f ≡ true
+  open-stays a j g w e = by-equal k j
+      (λ q. by-equal f g (λ z. no-both _ (rw (eq-eqb j k (sym q), eq-eqb g f (sym z))) e)
       (λ n. rw q (without-reading-other s j w.either.act.active.low words w.either.act.active.high g f w.either.file.low x.first n
       ∙ rw q at x.on)))
       (λ n. reading-other s j w.either.act.active.low _ k f x.low n ∙ x.on)
@@ -39,14 +39,14 @@ module _ (s : Session) (words : length s.reading ≡ 4) {k f : ℕ} (x : Reader 
   open-read-stays : (a : View) (j g : ℕ) → MayOpenRead a s j g → isReading (sessionAfter a s (openRead j g)) k f ≡ true
   open-read-stays a j g w = if-test (λ (s' : Session). isReading s' k f ≡ true) (holdsEither a s j g) s (withReading s j g)
       (λ e. x.on)
-      (λ e. by_equal k j
-      (λ q. by_equal f g (λ z. rw (q, z) (with-reading s j w.act.active.low words w.act.active.high g))
+      (λ e. by-equal k j
+      (λ q. by-equal f g (λ z. rw (q, z) (with-reading s j w.act.active.low words w.act.active.high g))
       (λ n. rw q (with-reading-other s j w.act.active.low words w.act.active.high g f w.file.low x.first n ∙ rw q at x.on)))
       (λ n. reading-other s j w.act.active.low _ k f x.low n ∙ x.on))
 
   done-holds : (a : View) (c : Call) → Allowed a s c → endsHold k f c ≡ false → isReading (sessionAfter a s c) k f ≡ true
   done-holds a (begin j) w e = active-reading s j true k f ∙ x.on
-  done-holds a (openFile j g) w e = open_stays a j g w e
+  done-holds a (openFile j g) w e = open-stays a j g w e
   done-holds a (openRead j g) w e = open-read-stays a j g w
   done-holds a (write j g p d) w e = x.on
   done-holds a (commit j) w e = ended-stays j w.active e

@@ -13,19 +13,19 @@ use Rattle.interface.specs.Answers.{refused}
 use Rattle.lists.specs.Lists.{if◌then◌else◌}
 use Rattle.sector.specs.Contents.{Entry}
 use Rattle.sector.specs.Sectors.{sector}
-use Rattle.lists.proofs.ListLaws.{no_both}
+use Rattle.lists.proofs.ListLaws.{no-both}
 use Rattle.lists.proofs.CaseLaws.{by-test}
 use Rattle.volume.specs.Places.{slotPlace, sectorOf}
 use Rattle.volume.specs.Views.{View, changedBy}
 use Rattle.volume.specs.Volumes.{Volume, view}
-use Rattle.volume.specs.Stores.{cut_at}
-use Rattle.volume.proofs.AccessLaws.{slot_is}
+use Rattle.volume.specs.Stores.{cutAt}
+use Rattle.volume.proofs.AccessLaws.{slot-is}
 use Rattle.volume.proofs.LawfulLaws.{Lawful, EntryFacts, entry-facts}
 use Rattle.volume.proofs.AlongLaws.{Along, changed-table}
-use Rattle.volume.proofs.SoundLaws.{Fine, cut-view, cut_all, cut-fine}
+use Rattle.volume.proofs.SoundLaws.{Fine, cut-view, cut-all, cut-fine}
 use Rattle.rules.specs.Sessions.{holds, noneActive}
 use Rattle.rules.specs.Plans.{Call, begin, openFile, openRead, write, commit, abort, Query, readPage, lookPage, entryFor, slotFor, plan}
-use Rattle.rules.specs.Calls.{After, callStores, call, query, part_of}
+use Rattle.rules.specs.Calls.{After, callStores, call, query, partOf}
 use Rattle.rules.specs.Content.{decidedMap, decidedSlot}
 use Rattle.rules.proofs.CallLaws.{Passed, call-case, call-left, query-case}
 use Rattle.rules.proofs.SessionLaws.{none-active}
@@ -51,13 +51,13 @@ module _ (v : Volume) (s : Session) (c : Call) (ok : Passed v s c) where
   lawful-along : Along (view v).table (Lawful (view v).table) (view v) (plan (view v) s c)
   lawful-along = plan-lawful (view v) s c ok.allowed
 
-  left-view : (n : ℕ) → view (cut_at v (callStores v s c) n) ≡ changedBy (view v) (take n (plan (view v) s c))
+  left-view : (n : ℕ) → view (cutAt v (callStores v s c) n) ≡ changedBy (view v) (take n (plan (view v) s c))
   left-view = cut-view ok.fine lawful-along
 
-  pub left-all : (n : ℕ) → length (callStores v s c) ≤ n → view (cut_at v (callStores v s c) n) ≡ changedBy (view v) (plan (view v) s c)
-  left-all = cut_all ok.fine lawful-along
+  pub left-all : (n : ℕ) → length (callStores v s c) ≤ n → view (cutAt v (callStores v s c) n) ≡ changedBy (view v) (plan (view v) s c)
+  left-all = cut-all ok.fine lawful-along
 
-  pub left-fine : (n : ℕ) → Fine (cut_at v (callStores v s c) n)
+  pub left-fine : (n : ℕ) → Fine (cutAt v (callStores v s c) n)
   left-fine = cut-fine ok.fine lawful-along
 
 pub call-matches : (v : Volume) (s : Session) (m : Model) → Matches (view v) s m → (c : Call) (budget : ℕ)
@@ -94,18 +94,18 @@ slot-shown a s m h k f p w (some e) found = rw (entry-facts (own-record w.act) f
 -- A client that reads is active, so the model's pending pages are those of its record.
 pub read-pending : (a : View) (s : Session) (m : Model) → Matches a s m → (k : ℕ) → Active s k → m.pending k ≡ pendingIn a k
 read-pending a s m h k w =
-    (h.tracked (by-test (noneActive s) (λ e. no_both _ w.on (none-active s k e)) (λ e. e)) k w.low w.high).active w.on
+    (h.tracked (by-test (noneActive s) (λ e. no-both _ w.on (none-active s k e)) (λ e. e)) k w.low w.high).active w.on
 
 pub query-matches : (v : Volume) (s : Session) (m : Model) → Matches (view v) s m → (q : Query) → QueryAgrees v s m q (query v s q)
 query-matches v s m h (readPage k f p) = query-case (QueryAgrees v s m (readPage k f p)) v s (readPage k f p) (λ n e. tt)
     (λ fine w e.
     let o = entryFor (view v) k f p in
     let same : sector v (sectorOf (view v).table (slotPlace f (slotFor (view v) f p (entryFor (view v) k f p)))) ≡ shown m (readPage k f p)
-    = sym (slot_is v f _ w.file (slot-below w o refl)) ∙ slot-shown (view v) s m h k f p w o refl
+    = sym (slot-is v f _ w.file (slot-below w o refl)) ∙ slot-shown (view v) s m h k f p w o refl
     ∙ ap (λ (l : Pending). overlaid l m.pages f p) (sym (read-pending (view v) s m h k w.act.active)) in
-    (same, ap (part_of v) e ∙ same))
+    (same, ap (partOf v) e ∙ same))
 query-matches v s m h (lookPage f p) = query-case (QueryAgrees v s m (lookPage f p)) v s (lookPage f p) (λ n e. tt)
     (λ fine w e.
     let same : sector v (sectorOf (view v).table (slotPlace f (decidedSlot (view v) f p))) ≡ m.pages f p
-    = sym (slot_is v f _ w.file (decided-below w.laws f p w.file w.page)) ∙ h.pages f p w.file w.page in
-    (same, ap (part_of v) e ∙ same))
+    = sym (slot-is v f _ w.file (decided-below w.laws f p w.file w.page)) ∙ h.pages f p w.file w.page in
+    (same, ap (partOf v) e ∙ same))

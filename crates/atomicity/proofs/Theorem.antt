@@ -11,7 +11,7 @@ use lib.ListN.{length, get_or, replicate}
 use Rattle.interface.specs.declared.Session.{Session}
 use Rattle.interface.specs.Answers.{newSession, formatDone}
 use Rattle.sector.specs.Contents.{Bytes, Table, Header, newHeader}
-use Rattle.lists.proofs.SearchLaws.{from_at}
+use Rattle.lists.proofs.SearchLaws.{from-at}
 use Rattle.volume.specs.Places.{fileAt}
 use Rattle.volume.specs.Views.{View}
 use Rattle.volume.specs.Volumes.{Volume, view}
@@ -73,8 +73,8 @@ startedAs v = record {
 pub started-related : (v : Volume) → Related (view v).table (startedAs v)
 started-related v = record { table = refl; matches = new-matches (view v) _ (λ f p i lt. refl) }
 
-pub agrees_from : (v : Volume) (steps : List Step) → Agrees (view v).table (startedAs v) steps
-agrees_from v steps = agrees (view v).table (startedAs v) steps (started-related v)
+pub agrees-from : (v : Volume) (steps : List Step) → Agrees (view v).table (startedAs v) steps
+agrees-from v steps = agrees (view v).table (startedAs v) steps (started-related v)
 
 -- ------------------------------------------------------------------ from a formatted volume
 -- Page p is in slot p, and every slot is zero.
@@ -85,7 +85,7 @@ new-content t facts f p i lt =
     let header : a.headers f ≡ newHeader (fileAt t f) = new-header t facts f i in
     ap (λ (m : List ℕ). a.slots f (get_or m p 0)) (unheld-map a f (ap (λ (h : Header). h.holder) header))
     ∙ ap (λ (h : Header). a.slots f (get_or h.map p 0)) header
-    ∙ rw (from_at (fileAt t f).pages 0 p lt) (new-slot t facts f (0 + p) i (omega (arith, (file-facts facts f i).room)))
+    ∙ rw (from-at (fileAt t f).pages 0 p lt) (new-slot t facts f (0 + p) i (omega (arith, (file-facts facts f i).room)))
 
 new-related : (t : Table) → TableFacts t → Related t (started (newVolume t))
 new-related t facts = record {

@@ -6,7 +6,7 @@ use Rattle.interface.specs.Answers.{QueryAnswer, found, queryRefused}
 use Rattle.sector.specs.Contents.{Table}
 use Rattle.volume.specs.Volumes.{Volume}
 use Rattle.volume.specs.Format.{tableFor, format}
-use Rattle.rules.specs.Calls.{query, part_of, queryPart}
+use Rattle.rules.specs.Calls.{query, partOf, queryPart}
 use Rattle.rules.specs.Plans.{Query}
 use lib.ListN.{length}
 use Rattle.atomicity.specs.Model.{Model, shown}
@@ -17,7 +17,7 @@ use Rattle.atomicity.proofs.Theorem.{all-or-none}
 
 -- A question that agrees shows the page.
 query-shows : (v : Volume) (s : Session) (m : Model) (q : Query) (x : QueryAnswer) → QueryAgrees v s m q x
-    → ShowsPage (shown m q) (ofQuery x) (part_of v x) (queryPart v s q)
+    → ShowsPage (shown m q) (ofQuery x) (partOf v x) (queryPart v s q)
 query-shows v s m q (found n) h = h
 query-shows v s m q (queryRefused n) h = tt
 

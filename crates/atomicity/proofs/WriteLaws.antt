@@ -16,9 +16,9 @@ use Rattle.interface.specs.declared.Session.{Session}
 use Rattle.lists.specs.Lists.{member}
 use Rattle.sector.specs.Contents.{Bytes, Entry, decidedRecord, appended}
 use Rattle.sector.specs.Entries.{forFile, forPage, givesSlot}
-use Rattle.lists.proofs.ListLaws.{all_nil, all_cons, find-has}
-use Rattle.lists.proofs.CaseLaws.{by_equal, eqb-sym}
-use Rattle.lists.proofs.SearchLaws.{every-implies, any_none, none_found, every-end, distinct-end, not-member}
+use Rattle.lists.proofs.ListLaws.{all-nil, all-cons, find-has}
+use Rattle.lists.proofs.CaseLaws.{by-equal, eqb-sym}
+use Rattle.lists.proofs.SearchLaws.{every-implies, any-none, none-found, every-end, distinct-end, not-member}
 use Rattle.volume.specs.Places.{fileAt}
 use Rattle.volume.specs.Views.{View, Update, setRecord, setSlot, changed}
 use Rattle.volume.specs.Lawful.{entryFits, recordFits, apart}
@@ -33,7 +33,7 @@ use Rattle.rules.proofs.AllowedLaws.{MayAct, MayWrite, Allowed, running-undecide
 use Rattle.rules.proofs.ChoiceLaws.{Free, chosen-free}
 use Rattle.rules.proofs.ContentLaws.{held-map}
 use Rattle.rules.proofs.RecoveryLaws.{decidedView, recovery-decided}
-use Rattle.atomicity.proofs.KeepLaws.{Keeps, keeps_self, keep-record, keep-slot}
+use Rattle.atomicity.proofs.KeepLaws.{Keeps, keeps-self, keep-record, keep-slot}
 use Rattle.atomicity.proofs.PlanLaws.{KeptAlong, recovery-along, abort-along, begin-along, open-along, open-read-along}
 
 -- ------------------------------------------------------------------ an active client
@@ -51,13 +51,13 @@ module _ {a : View} {s : Session} {k f p : ℕ} {d : Bytes} (w : MayWrite a s k 
   act = w.place.act
 
   self : Keeps a s k a
-  self = keeps_self act.ready.laws
+  self = keeps-self act.ready.laws
 
-  slot_placed : (r : ℕ) → r < (fileAt a.table f).slots → Placed a.table (setSlot f r d)
-  slot_placed r below = (w.place.file, below, w.size)
+  slot-placed : (r : ℕ) → r < (fileAt a.table f).slots → Placed a.table (setSlot f r d)
+  slot-placed r below = (w.place.file, below, w.size)
 
-  slot_kept : (r : ℕ) → member r (a.headers f).map ≡ false → Keeps a s k (changed a (setSlot f r d))
-  slot_kept r unmapped = keep-slot self f r d
+  slot-kept : (r : ℕ) → member r (a.headers f).map ≡ false → Keeps a s k (changed a (setSlot f r d))
+  slot-kept r unmapped = keep-slot self f r d
       (λ q lt. rw (own-map act f w.holder)
       (not-member (a.headers f).map r q unmapped (rw (act.ready.laws.headers f w.place.file).map.size lt)))
       (λ i o. running-foreign (act.ready.runs i o.active) f (λ x. o.other (sym x ∙ w.holder)) (λ e. eqb e.slot r))
@@ -77,8 +77,8 @@ module _ {a : View} {s : Session} {k f p : ℕ} {d : Bytes} (w : MayWrite a s k 
   module _ (r : ℕ) (new : entryFor a k f p ≡ none) (free : Free a k f r) (few : length (a.records k).entries < 62) where
     grown-fits : recordFits a.table (appended (a.records k) (entryIn r)) ≡ true
     grown-fits =
-        let fits : entryFits a.table (entryIn r) ≡ true = all_cons _ (le-leb _ _ w.place.file.low) (all_cons _
-        (le-leb _ _ w.place.file.high) (all_cons _ (lt-ltb _ _ w.place.page) (all_cons _ (lt-ltb _ _ free.below) all_nil))) in
+        let fits : entryFits a.table (entryIn r) ≡ true = all-cons _ (le-leb _ _ w.place.file.low) (all-cons _
+        (le-leb _ _ w.place.file.high) (all-cons _ (lt-ltb _ _ w.place.page) (all-cons _ (lt-ltb _ _ free.below) all-nil))) in
         record-fits {t = a.table} {r = appended (a.records k) (entryIn r)} (record {
           state = (own-record act).state;
           few = rw length-append (omega arith);
@@ -86,36 +86,36 @@ module _ {a : View} {s : Session} {k f p : ℕ} {d : Bytes} (w : MayWrite a s k 
           pages = distinct-end (λ e d. forPage e.file e.page d) (a.records k).entries (entryIn r) (own-record act).pages
               (every-implies (λ e. not (forPage f p e)) (λ e. not (forPage e.file e.page (entryIn r)))
               (λ e h. rw (eqb-sym f e.file, eqb-sym p e.page) h) (a.records k).entries
-              (none_found (forPage f p) (a.records k).entries new));
+              (none-found (forPage f p) (a.records k).entries new));
           slots = distinct-end (λ e d. givesSlot e.file e.slot d) (a.records k).entries (entryIn r) (own-record act).slots
               (every-implies (λ e. not (givesSlot f r e)) (λ e. not (givesSlot e.file e.slot (entryIn r)))
               (λ e h. rw (eqb-sym f e.file, eqb-sym r e.slot) h) (a.records k).entries
-              (any_none (givesSlot f r) (a.records k).entries free.ungiven));
+              (any-none (givesSlot f r) (a.records k).entries free.ungiven));
           idle = rw act.running.state;
         })
 
     grown-apart : (g : ℕ) → IsFile a.table g → (a.headers g).holder ≡ k
         → apart g ((a.records k).entries ++ (entryIn r ∷ [])) (a.headers g).map ≡ true
     grown-apart g i e = every-end (λ x. not (forFile g x && member x.slot (a.headers g).map)) (a.records k).entries (entryIn r)
-        (own-apart act g i e) (by_equal f g (λ q. rw (eq-eqb f g q, ← q, free.unmapped)) (λ n. rw (ne_eqb f g n)))
+        (own-apart act g i e) (by-equal f g (λ q. rw (eq-eqb f g q, ← q, free.unmapped)) (λ n. rw (ne_eqb f g n)))
 
     grown-kept : Keeps a s k (changed (changed a (setSlot f r d)) (setRecord k (appended (a.records k) (entryIn r))))
     grown-kept =
         let undecided : isDecided a k ≡ false = running-undecided act.running in
-        keep-record (slot_kept r free.unmapped) k (appended (a.records k) (entryIn r)) grown-fits
+        keep-record (slot-kept r free.unmapped) k (appended (a.records k) (entryIn r)) grown-fits
         (λ g i e. (rw act.running.state, grown-apart g i e, undecided, undecided)) (λ i o. o.other)
 
     new-along : KeptAlong a s k a (setSlot f r d ∷ setRecord k (appended (a.records k) (entryIn r)) ∷ [])
-    new-along = step self (slot_placed r free.below) (step {x = setRecord k (appended (a.records k) (entryIn r))}
-        (slot_kept r free.unmapped) (act.active.low, act.running.client, grown-fits) (last grown-kept))
+    new-along = step self (slot-placed r free.below) (step {x = setRecord k (appended (a.records k) (entryIn r))}
+        (slot-kept r free.unmapped) (act.active.low, act.running.client, grown-fits) (last grown-kept))
 
   pub new-free : entryFor a k f p ≡ none → Free a k f (chosen a k f p)
   new-free new = chosen-free a k f p (rw new at w.room)
 
   pub write-along : (o : Option Entry) → entryFor a k f p ≡ o → KeptAlong a s k a (writePlan a k f p d o)
   write-along (some e) found =
-      step self (slot_placed e.slot (entry-facts (own-record act) f p e found).slot)
-      (last (slot_kept e.slot (entry-unmapped e found)))
+      step self (slot-placed e.slot (entry-facts (own-record act) f p e found).slot)
+      (last (slot-kept e.slot (entry-unmapped e found)))
   write-along none new =
       let full : length (a.records k).entries ≢ 62 = eqb-false _ _ (rw new at w.few) in
       new-along (chosen a k f p) new (new-free new) (omega (arith, (own-record act).few))

@@ -7,7 +7,7 @@ use Rattle.interface.specs.Answers.{newSession, Answer, QueryAnswer, found, quer
 use Rattle.sector.specs.Contents.{Bytes, Table}
 use Rattle.volume.specs.Volumes.{Volume}
 use Rattle.volume.specs.Format.{tableFor, format}
-use Rattle.rules.specs.Calls.{call, query, part_of, queryPart}
+use Rattle.rules.specs.Calls.{call, query, partOf, queryPart}
 use Rattle.atomicity.specs.Model.{Model, newModel, shown, modelCall}
 use Rattle.atomicity.specs.Runs.{Step, calls, asks, Configuration, started, given, stepped, ranOver}
 use Rattle.atomicity.specs.AllOrNone.{PagesAgree}
@@ -33,7 +33,7 @@ eventOf r (calls crash c budget) =
 eventOf r (asks crash q) =
     let s = given crash r.session in
     let x = query r.volume s q in
-    record { answer = ofQuery x; session = r.session; bytes = part_of r.volume x; part = queryPart r.volume s q }
+    record { answer = ofQuery x; session = r.session; bytes = partOf r.volume x; part = queryPart r.volume s q }
 
 -- What the steps say, one after the other.
 abbrev pub eventsOf : Configuration → List Step → List Event

@@ -12,7 +12,7 @@ use borrow.Author.Tests.{ne_eqb, ltb-true, ltb-false}
 use lib.Bits.{bit_and, bit_or, and_mask, and_step, and_high, or_shr, or_mod}
 use lib.Dec.{eqb, ltb}
 use lib.Pow.{pow-add, pow_pos, pow-lt, shl-shr, shl_exact, shr-shr, shr_le, high}
-use Rattle.lists.proofs.CaseLaws.{by-test, by_equal}
+use Rattle.lists.proofs.CaseLaws.{by-test, by-equal}
 use Rattle.lists.proofs.SearchLaws.{or-true}
 use Rattle.lists.proofs.TestLaws.{not-and, or-zero}
 use Rattle.byteset.specs.Bits.{hasBit, withBit, withoutBit}
@@ -24,8 +24,8 @@ product-zero (suc b) p h =
     let z : suc b * p ≡ p + b * p = omega arith in
     ne_eqb _ _ (λ (q : suc b * p ≡ 0). omega (arith, z, q, h)) ∙ sym (ne_eqb (suc b) 0 (λ (q : suc b ≡ 0). omega (arith, q)))
 
-bit_is : (w k : ℕ) → hasBit w k ≡ not (eqb (w / 2 ^ k % 2) 0)
-bit_is w k =
+bit-is : (w k : ℕ) → hasBit w k ≡ not (eqb (w / 2 ^ k % 2) 0)
+bit-is w k =
     let p : 2 ^ (1 + k) ≡ 2 * 2 ^ k = pow-add 2 1 k in
     let m : 2 ^ k ≡ 2 ^ (1 + k) - 2 ^ k = omega (arith, p) in
     let q : bit_and w (2 ^ k) ≡ (w / 2 ^ k % 2) * 2 ^ k = ap (bit_and w) m ∙ and_high w 1 k in
@@ -37,14 +37,14 @@ own-bit k =
     let q : 2 ^ k / 2 ^ k ≡ 1 = ap (λ (x : ℕ). x / 2 ^ k) z ∙ shl-shr 1 k in
     rw q
 
-low_bit : (i k : ℕ) → i < k → 2 ^ i / 2 ^ k % 2 ≡ 0
-low_bit i k h =
+low-bit : (i k : ℕ) → i < k → 2 ^ i / 2 ^ k % 2 ≡ 0
+low-bit i k h =
     let z : 2 ^ i ≡ 0 * 2 ^ k + 2 ^ i = omega arith in
     let q : 2 ^ i / 2 ^ k ≡ 0 = ap (λ (x : ℕ). x / 2 ^ k) z ∙ high 0 k (pow-lt h) in
     rw q
 
-high_bit : (j k : ℕ) → 2 ^ (suc j + k) / 2 ^ k % 2 ≡ 0
-high_bit j k =
+high-bit : (j k : ℕ) → 2 ^ (suc j + k) / 2 ^ k % 2 ≡ 0
+high-bit j k =
     let p : 2 ^ (suc j + k) ≡ 2 ^ suc j * 2 ^ k = pow-add 2 (suc j) k in
     let q : 2 ^ suc j * 2 ^ k / 2 ^ k ≡ 2 ^ j * 2 = shl-shr (2 ^ suc j) k ∙ pow-suc 2 j in
     rw (p, q) (omega arith)
@@ -53,34 +53,34 @@ other-bit : (i k : ℕ) → i ≢ k → 2 ^ i / 2 ^ k % 2 ≡ 0
 other-bit i k n = go (ltb i k) refl
   where
     go : (b : Bool) → ltb i k ≡ b → 2 ^ i / 2 ^ k % 2 ≡ 0
-    go true e = low_bit i k (ltb-true _ _ e)
+    go true e = low-bit i k (ltb-true _ _ e)
     go false e =
         let le : k ≤ i = ltb-false _ _ e in
         let m : i ≡ suc (i - k - 1) + k = omega arith in
-        ap (λ (x : ℕ). 2 ^ x / 2 ^ k % 2) m ∙ high_bit (i - k - 1) k
+        ap (λ (x : ℕ). 2 ^ x / 2 ^ k % 2) m ∙ high-bit (i - k - 1) k
 
 pub bit-or : (w v k : ℕ) → hasBit (bit_or w v) k ≡ (hasBit w k || hasBit v k)
 bit-or w v k =
     let q : bit_or w v / 2 ^ k % 2 ≡ bit_or (w / 2 ^ k % 2) (v / 2 ^ k % 2) = ap (λ (x : ℕ). x % 2) (or_shr w v k) ∙ or_mod (w / 2 ^ k) (v / 2 ^ k) 1 in
-    rw (bit_is (bit_or w v) k, q, or-zero (w / 2 ^ k % 2) (v / 2 ^ k % 2), bit_is w k, bit_is v k) (not-and (eqb (w / 2 ^ k % 2) 0) (eqb (v / 2 ^ k % 2) 0))
+    rw (bit-is (bit_or w v) k, q, or-zero (w / 2 ^ k % 2) (v / 2 ^ k % 2), bit-is w k, bit-is v k) (not-and (eqb (w / 2 ^ k % 2) 0) (eqb (v / 2 ^ k % 2) 0))
 
 pub bit-same : (w k : ℕ) → hasBit (bit_or w (2 ^ k)) k ≡ true
-bit-same w k = bit-or w (2 ^ k) k ∙ or-true (hasBit w k) _ (bit_is (2 ^ k) k ∙ rw (own-bit k))
+bit-same w k = bit-or w (2 ^ k) k ∙ or-true (hasBit w k) _ (bit-is (2 ^ k) k ∙ rw (own-bit k))
 
 pub bit-other : (w i k : ℕ) → i ≢ k → hasBit (bit_or w (2 ^ i)) k ≡ hasBit w k
-bit-other w i k n = bit-or w (2 ^ i) k ∙ rw (bit_is (2 ^ i) k, other-bit i k n) (or-false (hasBit w k))
+bit-other w i k n = bit-or w (2 ^ i) k ∙ rw (bit-is (2 ^ i) k, other-bit i k n) (or-false (hasBit w k))
 
 -- A word that is 0 without its i lowest bits has no bit from i on.
-pub none_above : (w i j : ℕ) → w / 2 ^ i ≡ 0 → i ≤ j → hasBit w j ≡ false
-none_above w i j z h =
+pub none-above : (w i j : ℕ) → w / 2 ^ i ≡ 0 → i ≤ j → hasBit w j ≡ false
+none-above w i j z h =
     let m : j ≡ i + (j - i) = omega arith in
     let le : 0 / 2 ^ (j - i) ≤ 0 = shr_le 0 (j - i) in
     let q : w / 2 ^ j ≡ 0 = ap (λ (x : ℕ). w / 2 ^ x) m ∙ sym (shr-shr w i (j - i)) ∙ rw z (omega (arith, le)) in
-    bit_is w j ∙ rw q
+    bit-is w j ∙ rw q
 
 -- In a word of w bits 1 is shifted to bit i, and none is lost.
-pub one_shifted : (i w : ℕ) → i < w → 1 * 2 ^ i % 2 ^ w ≡ 2 ^ i
-one_shifted i w h =
+pub one-shifted : (i w : ℕ) → i < w → 1 * 2 ^ i % 2 ^ w ≡ 2 ^ i
+one-shifted i w h =
     let z : 1 * 2 ^ i ≡ 2 ^ i = omega arith in
     shl_exact {a = 1} 1 i w (omega arith) (omega arith) ∙ z
 
@@ -103,12 +103,12 @@ bit-half w j =
         ap not (ne_eqb (suc n * 2 + 0) 0 (λ (q : suc n * 2 + 0 ≡ 0). omega arith) ∙ sym (ne_eqb (suc n) 0 (λ (q : suc n ≡ 0). omega arith)))
 
 -- The lowest bit is set where the word is odd.
-odd_is : (w : ℕ) → hasBit w 0 ≡ true → w % 2 ≡ 1
-odd_is w e = by_equal (w % 2) 0 (λ z. absurd (true≢false (sym e ∙ bit-low w ∙ rw z))) (λ n. omega (arith, n))
+odd-is : (w : ℕ) → hasBit w 0 ≡ true → w % 2 ≡ 1
+odd-is w e = by-equal (w % 2) 0 (λ z. absurd (true≢false (sym e ∙ bit-low w ∙ rw z))) (λ n. omega (arith, n))
 
 -- A word with bit i is at least 2 ^ i.
 pub has-le : (w i : ℕ) → hasBit w i ≡ true → 2 ^ i ≤ w
-has-le w zero e = let o : w % 2 ≡ 1 = odd_is w e in omega (arith, o)
+has-le w zero e = let o : w % 2 ≡ 1 = odd-is w e in omega (arith, o)
 has-le w (suc i) e =
     let p : 2 ^ suc i ≡ 2 ^ i * 2 = pow-suc 2 i in
     let h : 2 ^ i ≤ w / 2 = has-le (w / 2) i (sym (bit-half w i) ∙ e) in
@@ -117,7 +117,7 @@ has-le w (suc i) e =
 -- A bit that is set is taken out.
 taken-same : (w i : ℕ) → hasBit w i ≡ true → hasBit (w - 2 ^ i) i ≡ false
 taken-same w zero e =
-    let o : w % 2 ≡ 1 = odd_is w e in
+    let o : w % 2 ≡ 1 = odd-is w e in
     let z : (w - 2 ^ 0) % 2 ≡ 0 = omega (arith, o) in
     bit-low (w - 2 ^ 0) ∙ rw z
 taken-same w (suc i) e =
@@ -128,7 +128,7 @@ taken-same w (suc i) e =
 taken-other : (w i j : ℕ) → hasBit w i ≡ true → j ≢ i → hasBit (w - 2 ^ i) j ≡ hasBit w j
 taken-other w zero zero e n = absurd (n refl)
 taken-other w zero (suc j) e n =
-    let o : w % 2 ≡ 1 = odd_is w e in
+    let o : w % 2 ≡ 1 = odd-is w e in
     let half : (w - 2 ^ 0) / 2 ≡ w / 2 = omega (arith, o) in
     bit-half (w - 2 ^ 0) j ∙ rw half (sym (bit-half w j))
 taken-other w (suc i) zero e n =
@@ -156,6 +156,6 @@ module _ (w i : ℕ) where
   unfolding withoutBit
   without-same = by-test (hasBit w i) (λ e. rw e (taken-same w i e)) (λ e. rw e e)
 
-  pub without_other : (j : ℕ) → j ≢ i → hasBit (withoutBit w i) j ≡ hasBit w j
+  pub without-other : (j : ℕ) → j ≢ i → hasBit (withoutBit w i) j ≡ hasBit w j
   unfolding withoutBit
-  without_other j n = by-test (hasBit w i) (λ e. rw e (taken-other w i j e n)) (λ e. rw e)
+  without-other j n = by-test (hasBit w i) (λ e. rw e (taken-other w i j e n)) (λ e. rw e)

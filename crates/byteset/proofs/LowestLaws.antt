@@ -29,33 +29,33 @@ ones-turn k w t (suc zero) small e rest = (omega (arith, rest.0), below, λ (l :
     below (suc j) l = bit-half w j ∙ rest.1 j (le_of_suc-le-suc l)
 ones-turn k w t (suc (suc b)) small e rest = absurd (not-suc-le-zero (le_of_suc-le-suc (le_of_suc-le-suc small)))
 
-pub ones_below : (k w : ℕ) → w < 2 ^ k → LowestFailing (hasBit w) k (count_trailing_zeros k (2 ^ k - 1 - w))
+pub ones-below : (k w : ℕ) → w < 2 ^ k → LowestFailing (hasBit w) k (count_trailing_zeros k (2 ^ k - 1 - w))
 unfolding count_trailing_zeros
-ones_below zero w h = (zero-le, λ j (l : j < 0). absurd (not-suc-le-zero l), λ (l : 0 < 0). absurd (not-suc-le-zero l))
-ones_below (suc k) w h =
+ones-below zero w h = (zero-le, λ j (l : j < 0). absurd (not-suc-le-zero l), λ (l : 0 < 0). absurd (not-suc-le-zero l))
+ones-below (suc k) w h =
     let p : 2 ^ suc k ≡ 2 ^ k * 2 = pow-suc 2 k in
     let half : (2 ^ suc k - 1 - w) / 2 ≡ 2 ^ k - 1 - w / 2 = omega (arith, p, h) in
     let low : (2 ^ suc k - 1 - w) % 2 ≡ 1 - w % 2 = omega (arith, p, h) in
     let less : w / 2 < 2 ^ k = omega (arith, p, h) in
-    rw (half, low) (ones-turn k w _ (w % 2) (omega arith) refl (ones_below k (w / 2) less))
+    rw (half, low) (ones-turn k w _ (w % 2) (omega arith) refl (ones-below k (w / 2) less))
 
 -- ------------------------------------------------------------------ the bits before a start
 -- The word 2 ^ k - 1 has the bits below k.
-bits_below : (k j : ℕ) → hasBit (2 ^ k - 1) j ≡ ltb j k
-bits_below zero j = rw (and_zero_l (2 ^ j)) (sym (le-ltb j 0 zero-le))
-bits_below (suc k) zero =
+bits-below : (k j : ℕ) → hasBit (2 ^ k - 1) j ≡ ltb j k
+bits-below zero j = rw (and_zero_l (2 ^ j)) (sym (le-ltb j 0 zero-le))
+bits-below (suc k) zero =
     let p : 2 ^ suc k ≡ 2 ^ k * 2 = pow-suc 2 k in
     let odd : (2 ^ suc k - 1) % 2 ≡ 1 = omega (arith, p, pow_pos k) in
     bit-low (2 ^ suc k - 1) ∙ rw odd (sym (lt-ltb 0 (suc k) (omega arith)))
-bits_below (suc k) (suc j) =
+bits-below (suc k) (suc j) =
     let p : 2 ^ suc k ≡ 2 ^ k * 2 = pow-suc 2 k in
     let half : (2 ^ suc k - 1) / 2 ≡ 2 ^ k - 1 = omega (arith, p, pow_pos k) in
-    bit-half (2 ^ suc k - 1) j ∙ rw half (bits_below k j ∙ ltb-same j k (suc j) (suc k) (λ h. omega arith) (λ h. omega arith))
+    bit-half (2 ^ suc k - 1) j ∙ rw half (bits-below k j ∙ ltb-same j k (suc j) (suc k) (λ h. omega arith) (λ h. omega arith))
 
 -- In the word of `start` they are the bytes before it.
 pub start-bits : (start j : ℕ) → hasBit (2 ^ (start % 64) - 1) j ≡ ltb (64 * (start / 64) + j) start
 start-bits start j =
-    bits_below (start % 64) j ∙ ltb-same j (start % 64) (64 * (start / 64) + j) start (λ h. omega arith) (λ h. omega arith)
+    bits-below (start % 64) j ∙ ltb-same j (start % 64) (64 * (start / 64) + j) start (λ h. omega arith) (λ h. omega arith)
 
 -- All bytes below the word with index i are passed over. Of this word b has the bits below the start, and with them the n lowest
 -- are set.

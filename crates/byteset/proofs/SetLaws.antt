@@ -13,10 +13,10 @@ use lib.Seq.{get_or-set_same, get_or-set_other}
 use Rattle.lists.proofs.ListLaws.{zeros-at}
 use Rattle.byteset.specs.Bits.{hasBit}
 use Rattle.byteset.specs.Set.{noBytes, hasByte, withByte}
-use Rattle.byteset.proofs.BitLaws.{bit-same, bit-other, one_shifted}
+use Rattle.byteset.proofs.BitLaws.{bit-same, bit-other, one-shifted}
 
-pub mask_is : (x r : ℕ) → r ≡ x % 64 → 1 * 2 ^ r % 18446744073709551616 ≡ 2 ^ (x % 64)
-mask_is x r e = rw e (one_shifted (x % 64) 64 (omega arith))
+pub mask-is : (x r : ℕ) → r ≡ x % 64 → 1 * 2 ^ r % 18446744073709551616 ≡ 2 ^ (x % 64)
+mask-is x r e = rw e (one-shifted (x % 64) 64 (omega arith))
 
 -- A set whose words are zero has nothing in it.
 pub has-zeros : (n y : ℕ) → hasByte (replicate n 0) y ≡ false

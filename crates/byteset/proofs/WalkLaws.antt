@@ -7,7 +7,7 @@ use Prim.Native.Nat.{ℕ, ◌/◌, ◌<◌}
 use lib.Dec.{eqb}
 use lib.ListN.{length}
 use Rattle.lists.specs.Lists.{every, distinct, member}
-use Rattle.lists.proofs.CaseLaws.{eqb-sym, or_turn}
+use Rattle.lists.proofs.CaseLaws.{eqb-sym, or-turn}
 use Rattle.byteset.specs.Set.{hasByte, withByte, Holds}
 use Rattle.byteset.proofs.SetLaws.{has-with}
 
@@ -20,8 +20,8 @@ pub record Walk (l s left : List ℕ) : Type 0 where
   pub decides : distinct eqb l ≡ (unseen s left && distinct eqb left)
   pub holds : (y : ℕ) → (hasByte s y || member y left) ≡ member y l
 
-pub walk_none : (l s : List ℕ) → ((y : ℕ) → hasByte s y ≡ false) → Walk l s l
-walk_none l s e = record { decides = rw (none l); holds = λ y. rw (e y) }
+pub walk-none : (l s : List ℕ) → ((y : ℕ) → hasByte s y ≡ false) → Walk l s l
+walk-none l s e = record { decides = rw (none l); holds = λ y. rw (e y) }
   where
     none : (m : List ℕ) → unseen s m ≡ true
     none [] = refl
@@ -43,10 +43,10 @@ module _ {l s : List ℕ} (x : ℕ) (left : List ℕ) (w : Walk l s (x ∷ left)
   pub walk-seen : not (hasByte s x) ≡ false → distinct eqb l ≡ false
   walk-seen e = w.decides ∙ rw e
 
-  pub walk_more : not (hasByte s x) ≡ true → x / 64 < length s → Walk l (withByte s x) left
-  walk_more e room = record {
+  pub walk-more : not (hasByte s x) ≡ true → x / 64 < length s → Walk l (withByte s x) left
+  walk-more e room = record {
     decides = w.decides ∙ rw (e, unseen-more s x left room) (swap (unseen s left) (not (member x left)) (distinct eqb left));
-    holds = λ y. rw (has-with s x y room) (or_turn (eqb y x) (hasByte s y) (member y left)) ∙ w.holds y;
+    holds = λ y. rw (has-with s x y room) (or-turn (eqb y x) (hasByte s y) (member y left)) ∙ w.holds y;
   }
     where
       swap : (a b c : Bool) → (a && (b && c)) ≡ ((b && a) && c)

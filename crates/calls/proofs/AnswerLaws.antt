@@ -16,10 +16,10 @@ use Rattle.interface.specs.Answers.{refused, queryRefused, countRefused, refusal
 use Rattle.lists.specs.Lists.{first}
 use Rattle.volume.specs.Volumes.{Volume, view}
 use Rattle.volume.specs.Sound.{sound}
-use Rattle.volume.specs.Stores.{Store, cut_at, allStores}
+use Rattle.volume.specs.Stores.{Store, cutAt, allStores}
 use Rattle.rules.specs.Plans.{Call, Query, plan, sessionAfter}
 use Rattle.rules.specs.Refusals.{tests, queryTests}
-use Rattle.rules.specs.Calls.{call_by, call, queryBy, query}
+use Rattle.rules.specs.Calls.{callBy, call, queryBy, query}
 use Rattle.rules.specs.Spare.{spareTests, spareBy, spare}
 use Rattle.stores.specs.declared.Run.{Run}
 use Rattle.stores.specs.Runs.{newRun, UpdatesMade}
@@ -41,22 +41,22 @@ pub refused-call : (v : Volume) (s : Session) (c : Call) (budget : ℕ) (r : Ref
     → record { answer = refused (refusalNumber r); session = s; volume = v } ≡ call v s c budget
 unfolding call
 refused-call v s c budget r e =
-    at-refusal (λ n. record { answer = refused n; session = s; volume = v }) (λ n. call_by n v s c budget) (λ n. refl) r
-    ∙ ap (λ (n : ℕ). call_by n v s c budget) e
+    at-refusal (λ n. record { answer = refused n; session = s; volume = v }) (λ n. callBy n v s c budget) (λ n. refl) r
+    ∙ ap (λ (n : ℕ). callBy n v s c budget) e
 
 -- A call that isn't refused makes the stores of its plan.
 module _ (v : Volume) (s : Session) (c : Call) (budget : ℕ) (e : 0 ≡ first (tests (sound v) (view v) s c)) where
   abbrev xs : List Store
   xs = allStores (view v).table (plan (view v) s c)
 
-  ended_by : (w : Volume) (made : ℕ) (isCrashed : Bool) → w ≡ cut_at v xs budget → made ≡ length (take budget xs)
+  ended-by : (w : Volume) (made : ℕ) (isCrashed : Bool) → w ≡ cutAt v xs budget → made ≡ length (take budget xs)
       → isCrashed ≡ ltb budget (length xs) → endedBy made isCrashed (sessionAfter (view v) s c) w ≡ call v s c budget
   unfolding call
-  ended_by w made true left count over =
+  ended-by w made true left count over =
       let more : budget < length xs = ltb-true budget (length xs) (sym over) in
       let all : made ≡ budget = count ∙ length-take-le budget xs (omega arith) in
       rw (← e, lt-leb (length xs) budget more, all, left)
-  ended_by w made false left count over =
+  ended-by w made false left count over =
       let room : length xs ≤ budget = ltb-false budget (length xs) (sym over) in
       let all : take budget xs ≡ xs = take_all budget xs room in
       rw (← e, le-leb (length xs) budget room, count ∙ ap length all, left)
@@ -65,7 +65,7 @@ module _ (v : Volume) (s : Session) (c : Call) (budget : ℕ) (e : 0 ≡ first (
       → endedBy q.made q.crashed (sessionAfter (view v) s c) w ≡ call v s c budget
   ended-call w q m =
       let x = m.stores ∙ run-new budget xs v in
-      ended_by w q.made q.crashed (ap (λ (p : Volume × Run). p.0) x) (ap (λ (p : Volume × Run). p.1.made) x) (ap (λ (p : Volume × Run). p.1.crashed) x)
+      ended-by w q.made q.crashed (ap (λ (p : Volume × Run). p.0) x) (ap (λ (p : Volume × Run). p.1.made) x) (ap (λ (p : Volume × Run). p.1.crashed) x)
 
 -- A refused question.
 pub refused-query : (v : Volume) (s : Session) (q : Query) (r : Refusal)

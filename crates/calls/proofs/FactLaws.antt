@@ -17,7 +17,7 @@ use Rattle.volume.proofs.SoundLaws.{Fine, fine-sound, sound-lawful}
 use Rattle.rules.specs.Sessions.{isActive, isReading}
 use Rattle.rules.specs.Plans.{Call, begin, openFile, openRead, commit, abort, lookPage}
 use Rattle.rules.specs.Refusals.{heldByOther, lookTests, tests, queryTests}
-use Rattle.rules.proofs.AllowedLaws.{MayOpenRead, passed_first, query-ordered, answerable}
+use Rattle.rules.proofs.AllowedLaws.{MayOpenRead, passed-first, query-ordered, answerable}
 use Rattle.rules.proofs.CallLaws.{passed}
 use Rattle.transaction.proofs.TestedLaws.{begin-client, act-client, open-header}
 
@@ -26,9 +26,9 @@ pub call-formed : (v : Volume) (s : Session) (c : Call) → 0 ≡ first (tests (
 call-formed v s c e = (passed v s c (sym e)).fine.formed
 
 -- The tests of commit and of abort are the same.
-pub same_tests : (v : Volume) (s : Session) (k : ℕ) → first (tests (sound v) (view v) s (commit k)) ≡ first (tests (sound v) (view v) s (abort k))
+pub same-tests : (v : Volume) (s : Session) (k : ℕ) → first (tests (sound v) (view v) s (commit k)) ≡ first (tests (sound v) (view v) s (abort k))
 unfolding tests
-same_tests v s k = refl
+same-tests v s k = refl
 
 -- A client that may begin.
 pub record Begins (v : Volume) (s : Session) (k : ℕ) : Type 0 where
@@ -102,5 +102,5 @@ pub looks : (v : Volume) (f p : ℕ) → 0 ≡ first (lookTests (sound v) (view 
 unfolding queryTests
 looks v f p e =
     let w = answerable (sound v) (view v) newSession (sound-lawful v) (lookPage f p) (sym e) in
-    let ok : sound v ≡ true = passed_first (query-ordered (sound v) (view v) newSession (lookPage f p)) (sym e) in
+    let ok : sound v ≡ true = passed-first (query-ordered (sound v) (view v) newSession (lookPage f p)) (sym e) in
     record { sound = ok; formed = sound-formed v ok; page = record { file = w.file; below = w.page } }

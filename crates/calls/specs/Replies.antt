@@ -2,14 +2,14 @@
 use Rattle.std.specs.Prelude.{Bool, ℕ}
 use Rattle.interface.specs.declared.Session.{Session}
 use Rattle.interface.specs.declared.Reply.{Reply}
-use Rattle.interface.specs.Answers.{newSession, done, crashed, answer_of}
+use Rattle.interface.specs.Answers.{newSession, done, crashed, answerOf}
 use Rattle.lists.specs.Lists.{if◌then◌else◌}
 use Rattle.volume.specs.Volumes.{Volume}
 use Rattle.rules.specs.Calls.{After}
 
 -- The reply of a call that left the volume w: its answer, its session, and every byte.
 abbrev pub replied : Reply → Volume → After
-replied r w = record { answer = answer_of r.outcome; session = r.session; volume = w }
+replied r w = record { answer = answerOf r.outcome; session = r.session; volume = w }
 
 -- A call that made so many stores, and crashed or didn't; the session is the one that it hands back if it is done.
 abbrev pub endedBy : (made : ℕ) → (isCrashed : Bool) → Session → Volume → After

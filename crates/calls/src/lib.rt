@@ -1,5 +1,6 @@
 // The calls on a volume. Each tests its own arguments and refuses by the first refusal that applies, before any store;
 // then it makes the stores of its plan, as many as the budget allows.
+#![tactic(auto)]
 mod reply;
 
 ghost use Rattle.std.specs.Prelude.{◌≡◌, true, ◌≤◌};

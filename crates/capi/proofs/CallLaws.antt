@@ -5,7 +5,7 @@ use borrow.Author.Tests.{lt-ltb, le-ltb}
 use Rattle.interface.specs.declared.Session.{Session}
 use Rattle.interface.specs.declared.Reply.{Reply}
 use Rattle.interface.specs.declared.QueryOutcome.{QueryOutcome}
-use Rattle.interface.specs.Answers.{answer_of, queryAnswerOf}
+use Rattle.interface.specs.Answers.{answerOf, queryAnswerOf}
 use Rattle.volume.specs.Volumes.{Volume}
 use Rattle.rules.specs.Plans.{Call, Query}
 use Rattle.rules.specs.Calls.{call, query}
@@ -23,7 +23,7 @@ refused-bits v c x budget y h e = rw (lt-ltb _ _ h, e)
 
 -- Four marks: the call's reply, and the volume that the call leaves.
 pub passed-call : (v w : Volume) (c : VolSession) (s : Session) (x : Call) (budget : ℕ) (r : Reply) (y : VolReply) → c.active ≤ 15
-    → s ≡ sessionFrom c → replied r w ≡ call v s x budget → y ≡ replyWith (passedSession r.session) (passedAnswer (answer_of r.outcome))
+    → s ≡ sessionFrom c → replied r w ≡ call v s x budget → y ≡ replyWith (passedSession r.session) (passedAnswer (answerOf r.outcome))
     → ◌≡◌ {A = Passed} (record { reply = y; volume = w }) (calledBy v c x budget)
 unfolding calledBy
 passed-call v w c s x budget r y h i e p = rw (le-ltb _ _ h, p, sym i) (ap passedAfter e)

@@ -7,7 +7,7 @@ use Prim.Native.Nat.{ℕ}
 use lib.ListN.{replicate}
 use Rattle.interface.specs.Answers.{newSession, done, crashed, refused, found, queryRefused, counted, countRefused, formatDone, formatRefused}
 use Rattle.lists.specs.Lists.{all}
-use Rattle.volume.specs.Volumes.{Volume, view, table_of}
+use Rattle.volume.specs.Volumes.{Volume, view, tableOf}
 use Rattle.volume.specs.Lawful.{lawful}
 use Rattle.volume.specs.Sound.{canonical, sound}
 use Rattle.sector.specs.Sectors.{sector}
@@ -52,12 +52,12 @@ after : (v : Volume) → passedAfter (record { answer = crashed 7; session = ses
 after v = refl
 
 -- On an empty array, which isn't sound: 1, and the session given comes back, other bits too; a question hands back none.
-not_sound : calledBy [] (given 26) (begin 1) 255 ≡ record { reply = record { session = given 26; kind = 2; number = 1 }; volume = [] }
-unfolding calledBy sound canonical lawful all view table_of decodeTable decodeFiles sector
-not_sound = refl
+not-sound : calledBy [] (given 26) (begin 1) 255 ≡ record { reply = record { session = given 26; kind = 2; number = 1 }; volume = [] }
+unfolding calledBy sound canonical lawful all view tableOf decodeTable decodeFiles sector
+not-sound = refl
 
 not-sound-query : askedBy [] (given 26) (readPage 1 1 0) ≡ answer 2 1
-unfolding askedBy sound canonical lawful all view table_of decodeTable decodeFiles sector
+unfolding askedBy sound canonical lawful all view tableOf decodeTable decodeFiles sector
 not-sound-query = refl
 
 -- On a sound volume: 2.

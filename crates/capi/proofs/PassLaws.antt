@@ -36,8 +36,8 @@ no-other-bits s = le-ltb 15 (marksByte s)
 marks-back : (b : ℕ) (words : List ℕ) → b ≤ 15 → marksByte (sessionOf b words) ≡ b
 marks-back b words h = eqb-true _ _ (every-from (λ i. eqb (marksByte (sessionOf i noneReading)) i) 16 0 refl b (omega arith) (omega (arith, h)))
 
-pub given_back : (c : VolSession) → hasOtherBits c ≡ false → passedSession (sessionFrom c) ≡ c
-given_back c e = λ i. record { active = marks-back c.active c.reading (ltb-false _ _ e) i; reading = c.reading }
+pub given-back : (c : VolSession) → hasOtherBits c ≡ false → passedSession (sessionFrom c) ≡ c
+given-back c e = λ i. record { active = marks-back c.active c.reading (ltb-false _ _ e) i; reading = c.reading }
 
 -- "A refusal .. hands back the session given", as C gave it.
 pub refused-given : (v : Volume) (c : VolSession) (x : Call) (budget n : ℕ) → (call v (sessionFrom c) x budget).answer ≡ refused n
@@ -45,15 +45,15 @@ pub refused-given : (v : Volume) (c : VolSession) (x : Call) (budget n : ℕ) �
 unfolding calledBy
 refused-given v c x budget n = by-test (hasOtherBits c) (λ e r. rw e) (λ e. rw e (call-case
     (λ (y : After). y.answer ≡ refused n → passedSession y.session ≡ c) v (sessionFrom c) x budget
-    (λ m ok r. given_back c e) (λ w le r. absurd (done-not r)) (λ w lt r. absurd (crashed-not r))))
+    (λ m ok r. given-back c e) (λ w le r. absurd (done-not r)) (λ w lt r. absurd (crashed-not r))))
   where
-    is_refused : Answer → Bool
-    is_refused (done m) = false
-    is_refused (crashed m) = false
-    is_refused (refused m) = true
+    isRefused : Answer → Bool
+    isRefused (done m) = false
+    isRefused (crashed m) = false
+    isRefused (refused m) = true
 
     done-not : {m : ℕ} → done m ≡ refused n → ⊥
-    done-not r = false≢true (ap is_refused r)
+    done-not r = false≢true (ap isRefused r)
 
     crashed-not : {m : ℕ} → crashed m ≡ refused n → ⊥
-    crashed-not r = false≢true (ap is_refused r)
+    crashed-not r = false≢true (ap isRefused r)

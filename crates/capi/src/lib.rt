@@ -2,6 +2,7 @@
 // Sessions, replies and answers are structs by value. Ruled out of every call that takes a session: a fifth mark passed over
 // (`must-fail/fifth_bit_accepted`), and another session than the one given handed back by a refusal (`PassLaws.refused-given`);
 // of every answer, one kind taken for another (`must-fail/sector_as_refusal`).
+#![tactic(auto)]
 mod pass;
 
 ghost use Rattle.std.specs.Prelude.{◌≡◌};

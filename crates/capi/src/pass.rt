@@ -1,6 +1,6 @@
 // Sessions, replies and answers, as C gets them and gives them.
 ghost use Rattle.std.specs.Prelude.{◌≡◌};
-ghost use Rattle.interface.specs.Answers.{refusalNumber, answer_of, queryAnswerOf, countAnswerOf, formatAnswerOf};
+ghost use Rattle.interface.specs.Answers.{refusalNumber, answerOf, queryAnswerOf, countAnswerOf, formatAnswerOf};
 ghost use Rattle.capi.specs.Passing.{sessionFrom, passedSession, passedAnswer, passedQuery, passedCount, passedFormat, otherBitsRefused, replyWith, listedLength};
 
 use crate::{VolAnswer, VolReply, VolSession};
@@ -45,7 +45,7 @@ fn refused(r: Refusal) -> VolAnswer
 
 // A call's answer.
 fn pass_outcome(o: Outcome) -> VolAnswer
-    ensures { result ≡ passedAnswer (answer_of o) }
+    ensures { result ≡ passedAnswer (answerOf o) }
 {
     match o {
         Outcome::Done(n) => VolAnswer {
@@ -106,7 +106,7 @@ fn reply_with(s: VolSession, x: VolAnswer) -> VolReply
 
 // A call's reply.
 pub fn pass(r: Reply) -> VolReply
-    ensures { result ≡ replyWith (passedSession r.session) (passedAnswer (answer_of r.outcome)) }
+    ensures { result ≡ replyWith (passedSession r.session) (passedAnswer (answerOf r.outcome)) }
 {
     let s = r.session;
     let o = r.outcome;

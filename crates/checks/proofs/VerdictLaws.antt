@@ -12,7 +12,7 @@ use Rattle.interface.specs.declared.Refusal.{Refusal}
 use Rattle.interface.specs.declared.Refusal.TheVariants.{NotSound, BadSession, NoClient, AlreadyActive, NotActive, NoFile, FileInUse, NotHeld, NoPage, BadPageLength, NoFreeSlot, RecordFull, BadVolumeLength, BadShape, TooFewSectors, ReadOnly}
 use Rattle.interface.specs.Answers.{refusalNumber}
 use Rattle.lists.specs.Lists.{first, every}
-use Rattle.lists.proofs.ListLaws.{or_right}
+use Rattle.lists.proofs.ListLaws.{or-right}
 use Rattle.lists.proofs.SearchLaws.{first-none, first-refuses, first-accepts}
 use Rattle.volume.specs.Places.{IsFile}
 use Rattle.volume.specs.Views.{View}
@@ -22,10 +22,10 @@ use Rattle.volume.proofs.PlaceLaws.{client-of, file-of}
 use Rattle.volume.proofs.WellFormedLaws.{sound-formed}
 use Rattle.volume.proofs.ReadLaws.{few-clients, few-files}
 use Rattle.rules.specs.Sessions.{isReading, holds, holdsEither}
-use Rattle.rules.specs.Refusals.{Test, clientTests, activeTests, heldTests, read_only}
+use Rattle.rules.specs.Refusals.{Test, clientTests, activeTests, heldTests, readOnly}
 use Rattle.checks.specs.declared.Verdict.{Verdict}
 use Rattle.checks.specs.declared.Verdict.TheVariants.{Accepted, Refused}
-use Rattle.checks.specs.Verdicts.{number_of}
+use Rattle.checks.specs.Verdicts.{numberOf}
 
 pub numbered : (r : Refusal) → 1 ≤ refusalNumber r
 numbered NotSound = omega arith
@@ -48,15 +48,15 @@ numbered ReadOnly = omega arith
 -- ------------------------------------------------------------------ one part after the other
 -- A part whose verdict is v.
 module _ {v : Verdict} (xs : List Test) where
-  pub accepted : v ≡ Accepted → number_of v ≡ first xs → 0 ≡ first xs
-  accepted a e = ap number_of (sym a) ∙ e
+  pub accepted : v ≡ Accepted → numberOf v ≡ first xs → 0 ≡ first xs
+  accepted a e = ap numberOf (sym a) ∙ e
 
   -- If it refuses it decides.
-  pub refuses : {r : Refusal} (ys : List Test) → v ≡ Refused r → number_of v ≡ first xs → refusalNumber r ≡ first (xs ++ ys)
-  refuses {r} ys a e = first-refuses (refusalNumber r) xs ys (numbered r) (ap number_of (sym a) ∙ e)
+  pub refuses : {r : Refusal} (ys : List Test) → v ≡ Refused r → numberOf v ≡ first xs → refusalNumber r ≡ first (xs ++ ys)
+  refuses {r} ys a e = first-refuses (refusalNumber r) xs ys (numbered r) (ap numberOf (sym a) ∙ e)
 
   -- Else the next one does.
-  pub accepts : {n : ℕ} (ys : List Test) → v ≡ Accepted → number_of v ≡ first xs → every (λ x. leb 1 x.0) xs ≡ true
+  pub accepts : {n : ℕ} (ys : List Test) → v ≡ Accepted → numberOf v ≡ first xs → every (λ x. leb 1 x.0) xs ≡ true
       → n ≡ first ys → n ≡ first (xs ++ ys)
   accepts {n} ys a e pos q = first-accepts n xs ys pos (accepted a e) q
 
@@ -85,14 +85,14 @@ file-low v f ok i = (i.low, omega (arith, i.high, few-files v (sound-formed v ok
 -- ------------------------------------------------------------------ 16, after 8
 module _ (a : View) (s : Session) (k f : ℕ) (xs : List Test) where
   -- A file that is held, but not for writing, is held for reading only.
-  pub only-read : 0 ≡ first (heldTests a s k f) → holds a k f ≡ false → 16 ≡ first (read_only a s k f ∷ xs)
+  pub only-read : 0 ≡ first (heldTests a s k f) → holds a k f ≡ false → 16 ≡ first (readOnly a s k f ∷ xs)
   unfolding first
   only-read e n =
       let held : holdsEither a s k f ≡ true = not-false _ (first-none (heldTests a s k f) 1 refl (sym e)) in
-      let read : isReading s k f ≡ true = or_right (holds a k f) (isReading s k f) held n in
+      let read : isReading s k f ≡ true = or-right (holds a k f) (isReading s k f) held n in
       rw (read, n)
 
   -- One that is held for writing isn't, and the next test decides.
-  pub not-only-read : holds a k f ≡ true → {n : ℕ} → n ≡ first xs → n ≡ first (read_only a s k f ∷ xs)
+  pub not-only-read : holds a k f ≡ true → {n : ℕ} → n ≡ first xs → n ≡ first (readOnly a s k f ∷ xs)
   unfolding first
   not-only-read e q = rw (e, and-false (isReading s k f)) q

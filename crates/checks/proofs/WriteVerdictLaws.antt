@@ -7,7 +7,7 @@ use Prim.Native.Nat.{ℕ, zero, suc, ◌≤◌}
 use native.Mathlib.Nat.{not-suc-le-zero}
 use borrow.Author.Tests.{ltb-true, not-false}
 use Rattle.interface.specs.declared.Session.{Session}
-use Rattle.lists.specs.Lists.{first, is_some}
+use Rattle.lists.specs.Lists.{first, isSome}
 use Rattle.lists.proofs.SearchLaws.{first-none}
 use Rattle.sector.specs.Contents.{Bytes, Entry}
 use Rattle.volume.specs.Places.{isClient, isFile, IsClient, IsPage}
@@ -51,9 +51,9 @@ refused-answer zero m o r pos e = absurd (not-suc-le-zero pos)
 refused-answer (suc n) m o r pos e = rw (← e)
 
 -- The answer is by the number.
-pub same_answer : (w : WriteAnswer) (n m : ℕ) (o : Option Entry) (r : ℕ) → n ≡ m → w ≡ answerBy n o r → w ≡ answerBy m o r
-same_answer w n m o r e q = rw (← e) q
+pub same-answer : (w : WriteAnswer) (n m : ℕ) (o : Option Entry) (r : ℕ) → n ≡ m → w ≡ answerBy n o r → w ≡ answerBy m o r
+same-answer w n m o r e q = rw (← e) q
 
 -- The tests of where a page goes, and their answer, by the entry that the record has for it.
 abbrev pub answerFor : View → ℕ → ℕ → ℕ → Bytes → Option Entry → WriteAnswer
-answerFor a k f p d o = answerBy (first (slotTests (not (is_some o)) a k f d)) o (chosen a k f p)
+answerFor a k f p d o = answerBy (first (slotTests (not (isSome o)) a k f d)) o (chosen a k f p)

@@ -5,6 +5,6 @@ use Rattle.checks.specs.declared.Verdict.{Verdict}
 use Rattle.checks.specs.declared.Verdict.TheVariants.{Accepted, Refused}
 
 -- The number of the refusal, or 0.
-abbrev pub number_of : Verdict → ℕ
-number_of Accepted = 0
-number_of (Refused r) = refusalNumber r
+abbrev pub numberOf : Verdict → ℕ
+numberOf Accepted = 0
+numberOf (Refused r) = refusalNumber r

@@ -9,7 +9,7 @@ ghost use Rattle.volume.specs.Sound.{sound};
 ghost use Rattle.volume.specs.WellFormed.{TableFormed};
 ghost use Rattle.rules.specs.Plans.{begin, commit};
 ghost use Rattle.rules.specs.Refusals.{clientTests, tests};
-ghost use Rattle.checks.specs.Verdicts.{number_of};
+ghost use Rattle.checks.specs.Verdicts.{numberOf};
 
 use crate::Verdict;
 use interface::{Refusal, Session};
@@ -18,7 +18,7 @@ use sessions::{is_active, session_fits};
 // Tests 1 to 3: the volume is sound, as `ok` says; the session fits it; and client k exists.
 fn check_client(v: &[u8], ok: bool, s: Session, k: u8) -> Verdict
     requires { ok ≡ sound v.now }
-    ensures { number_of result ≡ first (clientTests (sound v.now) (view v.now) s k) }
+    ensures { numberOf result ≡ first (clientTests (sound v.now) (view v.now) s k) }
 {
     if !ok {
         return Verdict::Refused(Refusal::NotSound);
@@ -48,7 +48,7 @@ pub fn is_file(v: &[u8], f: u8) -> bool
 
 // The tests of begin.
 pub fn check_begin(v: &[u8], s: Session, k: u8) -> Verdict
-    ensures { number_of result ≡ first (tests (sound v.now) (view v.now) s (begin k)) }
+    ensures { numberOf result ≡ first (tests (sound v.now) (view v.now) s (begin k)) }
 {
     let ok = soundness::is_sound(v);
     match check_client(v, ok, s, k) {
@@ -64,7 +64,7 @@ pub fn check_begin(v: &[u8], s: Session, k: u8) -> Verdict
 
 // The tests of commit, and of abort.
 pub fn check_active(v: &[u8], s: Session, k: u8) -> Verdict
-    ensures { number_of result ≡ first (tests (sound v.now) (view v.now) s (commit k)) }
+    ensures { numberOf result ≡ first (tests (sound v.now) (view v.now) s (commit k)) }
 {
     let ok = soundness::is_sound(v);
     match check_client(v, ok, s, k) {

@@ -1,4 +1,5 @@
 // The tests of the calls: each answers the first refusal that applies, or that none does.
+#![tactic(auto)]
 mod call;
 mod look;
 mod open;

@@ -9,7 +9,7 @@ ghost use Rattle.volume.specs.Sound.{sound};
 ghost use Rattle.rules.specs.Sessions.{holdsEither};
 ghost use Rattle.rules.specs.Plans.{readPage};
 ghost use Rattle.rules.specs.Refusals.{pageMissing, heldTests, readTests, queryTests};
-ghost use Rattle.checks.specs.Verdicts.{number_of};
+ghost use Rattle.checks.specs.Verdicts.{numberOf};
 
 use crate::Verdict;
 use crate::call::{check_active, is_file};
@@ -30,7 +30,7 @@ pub fn holds_either(v: &[u8], s: Session, k: u8, f: u8) -> bool
 // Tests 6 and 8: file f exists, and client k holds it.
 pub fn check_held(v: &[u8], s: Session, k: u8, f: u8) -> Verdict
     requires { (sound v.now ≡ true) × (1 ≤ k) × (k ≤ 4) }
-    ensures { number_of result ≡ first (heldTests (view v.now) s k f) }
+    ensures { numberOf result ≡ first (heldTests (view v.now) s k f) }
 {
     if !is_file(v, f) {
         return Verdict::Refused(Refusal::NoFile);
@@ -44,7 +44,7 @@ pub fn check_held(v: &[u8], s: Session, k: u8, f: u8) -> Verdict
 // Test 9: file f has page p.
 pub fn check_page(v: &[u8], f: u8, p: u8) -> Verdict
     requires { (sound v.now ≡ true) × IsFile (view v.now).table f }
-    ensures { number_of result ≡ first (pageMissing (view v.now) f p ∷ []) }
+    ensures { numberOf result ≡ first (pageMissing (view v.now) f p ∷ []) }
 {
     if volume::pages(v, f) <= p {
         return Verdict::Refused(Refusal::NoPage);
@@ -55,7 +55,7 @@ pub fn check_page(v: &[u8], f: u8, p: u8) -> Verdict
 // Tests 6, 8 and 9.
 fn check_read_page(v: &[u8], s: Session, k: u8, f: u8, p: u8) -> Verdict
     requires { (sound v.now ≡ true) × (1 ≤ k) × (k ≤ 4) }
-    ensures { number_of result ≡ first (readTests (view v.now) s k f p) }
+    ensures { numberOf result ≡ first (readTests (view v.now) s k f p) }
 {
     match check_held(v, s, k, f) {
         Verdict::Refused(r) => Verdict::Refused(r),
@@ -66,7 +66,7 @@ fn check_read_page(v: &[u8], s: Session, k: u8, f: u8, p: u8) -> Verdict
 // The tests of read. Ruled out: a file that the client holds for reading refused by 8
 // (`rules/must-fail/reader_not_held`); a page past the last one accepted.
 pub fn check_read(v: &[u8], s: Session, k: u8, f: u8, p: u8) -> Verdict
-    ensures { number_of result ≡ first (queryTests (sound v.now) (view v.now) s (readPage k f p)) }
+    ensures { numberOf result ≡ first (queryTests (sound v.now) (view v.now) s (readPage k f p)) }
 {
     match check_active(v, s, k) {
         Verdict::Refused(r) => Verdict::Refused(r),

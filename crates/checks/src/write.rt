@@ -10,7 +10,7 @@ ghost use Rattle.volume.specs.Sound.{sound};
 ghost use Rattle.volume.specs.WellFormed.{WellFormed};
 ghost use Rattle.rules.specs.Plans.{write, chosen};
 ghost use Rattle.rules.specs.Refusals.{isNewPage, noFreeSlot, recordFull, activeTests, writeTests, slotTests, tests};
-ghost use Rattle.checks.specs.Verdicts.{number_of};
+ghost use Rattle.checks.specs.Verdicts.{numberOf};
 ghost use Rattle.checks.specs.Writes.{writeFound, answerBy, writeAnswer};
 
 use crate::call::check_active;
@@ -23,7 +23,7 @@ use slots::{Found, find_entry, free_slot};
 // Tests 6, 8, 16 and 9: 16 is that client k holds file f for reading only.
 fn check_write_page(v: &[u8], s: Session, k: u8, f: u8, p: u8) -> Verdict
     requires { (sound v.now ≡ true) × (1 ≤ k) × (k ≤ 4) }
-    ensures { number_of result ≡ first (writeTests (view v.now) s k f p) }
+    ensures { numberOf result ≡ first (writeTests (view v.now) s k f p) }
 {
     match check_held(v, s, k, f) {
         Verdict::Refused(r) => Verdict::Refused(r),
@@ -38,7 +38,7 @@ fn check_write_page(v: &[u8], s: Session, k: u8, f: u8, p: u8) -> Verdict
 
 // The tests of write up to 9.
 fn check_write_call(v: &[u8], s: Session, k: u8, f: u8, p: u8) -> Verdict
-    ensures { number_of result ≡ first (activeTests (sound v.now) (view v.now) s k ++ writeTests (view v.now) s k f p) }
+    ensures { numberOf result ≡ first (activeTests (sound v.now) (view v.now) s k ++ writeTests (view v.now) s k f p) }
 {
     match check_active(v, s, k) {
         Verdict::Refused(r) => Verdict::Refused(r),

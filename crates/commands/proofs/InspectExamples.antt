@@ -14,7 +14,7 @@ use Rattle.volume.specs.Volumes.{Volume}
 use Rattle.rules.specs.Sessions.{isReading}
 use Rattle.rules.specs.Spare.{spare}
 use Rattle.script.specs.Fields.{fromField}
-use Rattle.script.specs.Kinds.{bytes_of}
+use Rattle.script.specs.Kinds.{bytesOf}
 use Rattle.commands.specs.declared.Added.{Added}
 use Rattle.commands.specs.Inspect.{sessionSet, isHold, readingAdded, showsHold, spareAsked}
 
@@ -24,7 +24,7 @@ room-for-holds : isHold 1 1 ∷ isHold 4 16 ∷ isHold 0 1 ∷ isHold 5 1 ∷ is
 room-for-holds = refl
 
 -- Marks by their bits, and no hold.
-sessions-set : map (λ l. sessionSet (bytes_of l)) ("session 10" ∷ "session 0" ∷ [])
+sessions-set : map (λ l. sessionSet (bytesOf l)) ("session 10" ∷ "session 0" ∷ [])
     ≡ marks false true false true ∷ newSession ∷ []
 unfolding fromField
 sessions-set = refl
@@ -35,7 +35,7 @@ session words = sessionOf 3 words
 
 -- What a line adds where client 1 reads file 2.
 abbrev adds : String → Added
-adds l = readingAdded (session (2 ∷ 0 ∷ 0 ∷ 0 ∷ [])) (bytes_of l)
+adds l = readingAdded (session (2 ∷ 0 ∷ 0 ∷ 0 ∷ [])) (bytesOf l)
 
 -- The hold is added to those there are, also of a client that isn't active; a client 0 or a file 0 is none.
 lines-add : map adds ("reading 1 1" ∷ "reading 4 16" ∷ "reading 1 2" ∷ "reading 0 1" ∷ "reading 1 0" ∷ [])
@@ -60,6 +60,6 @@ unfolding isReading
 holds-shown = refl
 
 -- `spare F` asks about that file.
-spares-asked : (v : Volume) → map (λ l. spareAsked v (bytes_of l)) ("spare 0" ∷ "spare 2" ∷ "spare 255" ∷ []) ≡ map (spare v) (0 ∷ 2 ∷ 255 ∷ [])
+spares-asked : (v : Volume) → map (λ l. spareAsked v (bytesOf l)) ("spare 0" ∷ "spare 2" ∷ "spare 255" ∷ []) ≡ map (spare v) (0 ∷ 2 ∷ 255 ∷ [])
 unfolding fromField
 spares-asked v = refl

@@ -9,7 +9,7 @@ use lib.Dec.{eqb}
 use lib.ListN.{length, get_or, set}
 use Rattle.interface.specs.declared.Session.{Session}
 use Rattle.lists.specs.Lists.{between}
-use Rattle.lists.proofs.ListLaws.{and_left, and_right, between-true}
+use Rattle.lists.proofs.ListLaws.{and-left, and-right, between-true}
 use Rattle.rules.specs.Sessions.{withReading}
 use Rattle.sector.specs.Contents.{Bytes}
 use Rattle.sector.specs.Sectors.{sector}
@@ -29,8 +29,8 @@ remark-first (c ∷ l) h = refl
 -- A hold that a session has room for.
 pub hold-limits : (k f : ℕ) → isHold k f ≡ true → (1 ≤ k) × (k ≤ 4) × (1 ≤ f) × (f ≤ 16)
 hold-limits k f e =
-    let c = between-true 1 k 4 (and_left (between 1 k 4) _ e) in
-    let g = between-true 1 f 16 (and_right (between 1 k 4) _ e) in
+    let c = between-true 1 k 4 (and-left (between 1 k 4) _ e) in
+    let g = between-true 1 f 16 (and-right (between 1 k 4) _ e) in
     (c.0, c.1, g.0, g.1)
 
 -- k and f are the first two arguments.

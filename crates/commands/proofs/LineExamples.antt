@@ -4,22 +4,22 @@ use mathlib.Core.Bool.{false}
 use mathlib.Core.List.{List, [], ◌∷◌, map}
 use Prim.Native.String.{String}
 use Rattle.script.specs.Fields.{fromField}
-use Rattle.script.specs.Kinds.{bytes_of}
+use Rattle.script.specs.Kinds.{bytesOf}
 use Rattle.rules.specs.Plans.{begin, openFile, openRead, write, commit, abort, readPage, lookPage}
 use Rattle.atomicity.specs.Runs.{Step, calls, asks}
 use Rattle.commands.specs.declared.Action.{Action}
-use Rattle.commands.specs.Commands.{queryOf, step_of}
+use Rattle.commands.specs.Commands.{queryOf, stepOf}
 use Rattle.commands.specs.Lines.{values, lineCommand, lineStep}
 
 -- A BUDGET is the last argument. A look names no client.
-with-budgets : lineStep Action.Begin (bytes_of "begin 2 4")
-    ∷ lineStep Action.Open (bytes_of "open 2 3 4")
-    ∷ lineStep Action.OpenRead (bytes_of "open_read 2 3 4")
-    ∷ lineStep Action.Write (bytes_of "write 2 3 5 254 3 4")
-    ∷ lineStep Action.Commit (bytes_of "commit 2 4")
-    ∷ lineStep Action.Abort (bytes_of "abort 2 4")
-    ∷ lineStep Action.Read (bytes_of "read 2 3 5")
-    ∷ lineStep Action.Look (bytes_of "look 3 5")
+with-budgets : lineStep Action.Begin (bytesOf "begin 2 4")
+    ∷ lineStep Action.Open (bytesOf "open 2 3 4")
+    ∷ lineStep Action.OpenRead (bytesOf "open_read 2 3 4")
+    ∷ lineStep Action.Write (bytesOf "write 2 3 5 254 3 4")
+    ∷ lineStep Action.Commit (bytesOf "commit 2 4")
+    ∷ lineStep Action.Abort (bytesOf "abort 2 4")
+    ∷ lineStep Action.Read (bytesOf "read 2 3 5")
+    ∷ lineStep Action.Look (bytesOf "look 3 5")
     ∷ []
     ≡ calls false (begin 2) 4
     ∷ calls false (openFile 2 3) 4
@@ -30,22 +30,22 @@ with-budgets : lineStep Action.Begin (bytes_of "begin 2 4")
     ∷ asks false (readPage 2 3 5)
     ∷ asks false (lookPage 3 5)
     ∷ []
-unfolding step_of lineCommand values fromField
+unfolding stepOf lineCommand values fromField
 with-budgets = refl
 
 -- The second call of a question asks the same.
-asked : map (λ a. asks false (queryOf (lineCommand a (bytes_of "x 3 5 7")))) (Action.Read ∷ Action.Look ∷ [])
+asked : map (λ a. asks false (queryOf (lineCommand a (bytesOf "x 3 5 7")))) (Action.Read ∷ Action.Look ∷ [])
     ≡ asks false (readPage 3 5 7) ∷ asks false (lookPage 3 5) ∷ []
 unfolding lineCommand fromField
 asked = refl
 
 -- "a BUDGET left out is 255"
-without : lineStep Action.Begin (bytes_of "begin 2")
-    ∷ lineStep Action.Open (bytes_of "open 2 3")
-    ∷ lineStep Action.OpenRead (bytes_of "open_read 2 3")
-    ∷ lineStep Action.Write (bytes_of "write 2 3 5 7 1")
-    ∷ lineStep Action.Commit (bytes_of "commit 2")
-    ∷ lineStep Action.Abort (bytes_of "abort 2")
+without : lineStep Action.Begin (bytesOf "begin 2")
+    ∷ lineStep Action.Open (bytesOf "open 2 3")
+    ∷ lineStep Action.OpenRead (bytesOf "open_read 2 3")
+    ∷ lineStep Action.Write (bytesOf "write 2 3 5 7 1")
+    ∷ lineStep Action.Commit (bytesOf "commit 2")
+    ∷ lineStep Action.Abort (bytesOf "abort 2")
     ∷ []
     ≡ calls false (begin 2) 255
     ∷ calls false (openFile 2 3) 255
@@ -54,5 +54,5 @@ without : lineStep Action.Begin (bytes_of "begin 2")
     ∷ calls false (commit 2) 255
     ∷ calls false (abort 2) 255
     ∷ []
-unfolding step_of lineCommand values fromField
+unfolding stepOf lineCommand values fromField
 without = refl

@@ -1,7 +1,7 @@
 -- What a command is among the definitions: the step that it stands for, and what it is to have been performed.
 use Rattle.std.specs.Prelude.{◌≡◌, Bool, true, false}
 use Rattle.interface.specs.declared.Session.{Session}
-use Rattle.interface.specs.Answers.{answer_of, queryAnswerOf}
+use Rattle.interface.specs.Answers.{answerOf, queryAnswerOf}
 use Rattle.lists.specs.Lists.{if◌then◌else◌}
 use Rattle.sector.specs.Contents.{Bytes}
 use Rattle.volume.specs.Volumes.{Volume}
@@ -41,17 +41,17 @@ stepBy Action.Read c d = asks c.crash (readPage c.client c.file c.page)
 stepBy Action.Look c d = asks c.crash (lookPage c.file c.page)
 
 -- The step that a command stands for; d is what a write stores.
-unfoldable pub step_of : Command → Bytes → Step
-step_of c d = stepBy c.action c d
+unfoldable pub stepOf : Command → Bytes → Step
+stepOf c d = stepBy c.action c d
 
 -- Each case of what was told, as the definitions have it.
 abbrev pub toldOf : Told → StepAnswer
-toldOf (Told.Call o) = ofCall (answer_of o)
+toldOf (Told.Call o) = ofCall (answerOf o)
 toldOf (Told.Query o) = ofQuery (queryAnswerOf o)
 
 -- A run with this volume, session and model.
-abbrev pub run_of : Volume → Session → Model → Configuration
-run_of v s m = record { volume = v; session = s; model = m }
+abbrev pub runOf : Volume → Session → Model → Configuration
+runOf v s m = record { volume = v; session = s; model = m }
 
 -- The step was performed: it left this volume and session, and answered so.
 pub record IsPerformed (r : Configuration) (x : Step) (p : Performed) (w : Volume) : Type 0 where

@@ -6,7 +6,7 @@ use Rattle.script.specs.Fields.{arguments, argument}
 use Rattle.atomicity.specs.Runs.{Step}
 use Rattle.commands.specs.declared.Action.{Action}
 use Rattle.commands.specs.declared.Command.{Command}
-use Rattle.commands.specs.Commands.{isLook, step_of}
+use Rattle.commands.specs.Commands.{isLook, stepOf}
 
 -- Argument i as a byte. A line that is understood has no larger one where this is asked.
 abbrev pub byteArgument : ℕ → Bytes → ℕ
@@ -62,11 +62,11 @@ lineCommand a l = record {
 
 -- The step that a line stands for.
 abbrev pub lineStep : Action → Bytes → Step
-lineStep a l = step_of (lineCommand a l) (lineData l)
+lineStep a l = stepOf (lineCommand a l) (lineData l)
 
 -- The list of a format line: "0 to 64 numbers", from argument 3 on.
 abbrev pub shapeLength : Bytes → ℕ
 shapeLength l = min (arguments l - 2) 64
 
-abbrev pub shape_of : Bytes → (n : ℕ) → Bytes
-shape_of l n = values (λ i. byteArgument (i + 3) l) n
+abbrev pub shapeOf : Bytes → (n : ℕ) → Bytes
+shapeOf l n = values (λ i. byteArgument (i + 3) l) n

@@ -6,8 +6,8 @@ ghost use Rattle.volume.specs.Format;
 ghost use Rattle.format.specs.Outcomes.{formatted};
 ghost use Rattle.atomicity.specs.Model.{Model};
 ghost use Rattle.script.specs.Fields;
-ghost use Rattle.commands.specs.Commands.{run_of, IsPerformed};
-ghost use Rattle.commands.specs.Lines.{byteArgument, budgetArgument, filePlace, budgetPlace, lineCommand, lineStep, dataLength, shapeLength, shape_of, ramp};
+ghost use Rattle.commands.specs.Commands.{runOf, IsPerformed};
+ghost use Rattle.commands.specs.Lines.{byteArgument, budgetArgument, filePlace, budgetPlace, lineCommand, lineStep, dataLength, shapeLength, shapeOf, ramp};
 
 use crate::{Action, Command, Performed, is_look, perform};
 use interface::{FormatOutcome, Session};
@@ -103,7 +103,7 @@ fn data_length(line: &[u8]) -> usize
 // `begin K [BUDGET]`, `open K F [BUDGET]`, `open_read K F [BUDGET]`, the first call of `read K F P` and of `look F P`,
 // `write K F P SEED LENGTH [BUDGET]`, `commit K [BUDGET]`, `abort K [BUDGET]`.
 pub fn perform_line(v: &mut [u8], s: Session, a: Action, line: &[u8]) -> Performed
-    ensures { (m : Model) → IsPerformed (run_of v.old s m) (lineStep a line.now) result v.new }
+    ensures { (m : Model) → IsPerformed (runOf v.old s m) (lineStep a line.now) result v.new }
 {
     let mut data = [0u8; 512];
     let n = data_length(line);
@@ -128,7 +128,7 @@ fn shape_length(line: &[u8]) -> usize
 // The first n bytes become the list of a format.
 fn fill_shape(buf: &mut [u8; 64], line: &[u8], n: usize)
     requires { (length buf.old ≡ 64) × (n ≤ 64) }
-    ensures buf_after { (take n buf.new ≡ shape_of line.now n) × (length buf.new ≡ 64) }
+    ensures buf_after { (take n buf.new ≡ shapeOf line.now n) × (length buf.new ≡ 64) }
     ensures n_in_bounds { (n ≤ length buf.new) × (n ≡ length (take n buf.new)) }
 {
     let mut i = 0;
@@ -141,7 +141,7 @@ fn fill_shape(buf: &mut [u8; 64], line: &[u8], n: usize)
 // `format LENGTH T P R P R ..`, on the array lent.
 pub fn format(v: &mut [u8], line: &[u8]) -> FormatOutcome
     ensures { formatted result v.new ≡ Format.format v.old (byteArgument 2 line.now)
-        (shape_of line.now (shapeLength line.now)) }
+        (shapeOf line.now (shapeLength line.now)) }
 {
     let mut shape = [0u8; 64];
     let n = shape_length(line);

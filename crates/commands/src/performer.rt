@@ -1,13 +1,13 @@
 // A command performed by the call that it is. Its contract is the definition's step, so whatever is claimed of lists of
 // steps holds for everything that performs its calls here.
 ghost use Rattle.std.specs.Prelude.{◌≡◌};
-ghost use Rattle.interface.specs.Answers.{answer_of};
+ghost use Rattle.interface.specs.Answers.{answerOf};
 ghost use Rattle.rules.specs.Calls.{queryPart};
 ghost use Rattle.atomicity.specs.Model.{Model};
 ghost use Rattle.atomicity.specs.Runs.{given};
 ghost use Rattle.atomicity.specs.Transcripts.{ofCall};
 ghost use Rattle.commands.specs.declared.Told.{Told};
-ghost use Rattle.commands.specs.Commands.{isLook, queryOf, step_of, run_of, toldOf, IsPerformed};
+ghost use Rattle.commands.specs.Commands.{isLook, queryOf, stepOf, runOf, toldOf, IsPerformed};
 
 use crate::{Action, Command, Performed, Told};
 use interface::{QueryOutcome, Reply, Session};
@@ -24,7 +24,7 @@ fn given_session(s: Session, crash: bool) -> Session
 
 // What a call that hands back a session answered.
 fn told(r: Reply) -> Performed
-    ensures { (toldOf result.told ≡ ofCall (answer_of r.outcome)) × (result.session ≡ r.session) }
+    ensures { (toldOf result.told ≡ ofCall (answerOf r.outcome)) × (result.session ≡ r.session) }
 {
     let o = r.outcome;
     let s = r.session;
@@ -47,7 +47,7 @@ fn asked(o: QueryOutcome, s: Session) -> Performed
 // Performs the command; `bytes` is what a write stores. The contract is for every model, since no byte depends on it.
 // Ruled out: the session that a read was given passed on (`must-fail/read_hands_on_its_session`); a read left out.
 pub fn perform(v: &mut [u8], s: Session, c: Command, bytes: &[u8]) -> Performed
-    ensures { (m : Model) → IsPerformed (run_of v.old s m) (step_of c bytes.now) result v.new }
+    ensures { (m : Model) → IsPerformed (runOf v.old s m) (stepOf c bytes.now) result v.new }
 {
     let g = given_session(s, c.crash);
     let a = c.action;

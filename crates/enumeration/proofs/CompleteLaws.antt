@@ -11,8 +11,8 @@ use borrow.Author.Tests.{leb-true, ltb-true, eqb-false, eq-eqb, not-true}
 use lib.Dec.{eqb, ltb}
 use lib.ListN.{length, drop, drop_of_length-le}
 use Rattle.lists.specs.Lists.{every, any, filter}
-use Rattle.lists.proofs.ListLaws.{and_left, and_right, or-none, all-at}
-use Rattle.lists.proofs.CaseLaws.{by_equal}
+use Rattle.lists.proofs.ListLaws.{and-left, and-right, or-none, all-at}
+use Rattle.lists.proofs.CaseLaws.{by-equal}
 use Rattle.sector.specs.Contents.{Table, Entry, Record, Header}
 use Rattle.sector.specs.Entries.{forPage}
 use Rattle.volume.specs.Places.{sectorAfter, endSector, Place, tablePlace, recordPlace, headerPlace, slotPlace, Exists}
@@ -25,12 +25,12 @@ use Rattle.volume.proofs.LawfulLaws.{RecordFacts, record-facts, HeaderFacts, Law
 use Rattle.volume.proofs.SoundLaws.{fine}
 use Rattle.volume.proofs.AssembledLaws.{assembled-same}
 use Rattle.volume.proofs.VolumeOfLaws.{volume-back}
-use Rattle.enumeration.specs.Lists.{In, lists_of}
+use Rattle.enumeration.specs.Lists.{In, listsOf}
 use Rattle.enumeration.specs.Choices.{smallTable, mapValues, entryChoices, entryLists, recordChoices, slotsLeft, mapChoices, headerChoices}
 use Rattle.enumeration.specs.Small.{IsSmall, smallView, smallVolume, candidates, smallVolumes}
 use Rattle.enumeration.specs.Statements.{Complete}
 use Rattle.enumeration.proofs.SmallLaws.{small-file}
-use Rattle.enumeration.proofs.MemberLaws.{every_in, in-filter, in-flat, in_pairs, in-from, in-lists}
+use Rattle.enumeration.proofs.MemberLaws.{every-in, in-filter, in-flat, in-pairs, in-from, in-lists}
 
 -- ------------------------------------------------------------------ entries
 module _ (e : Entry) (fits : entryFits smallTable e ≡ true) where
@@ -43,10 +43,10 @@ module _ (e : Entry) (fits : entryFits smallTable e ≡ true) where
   entry-slot : e.slot < 3
   entry-slot = ltb-true e.slot 3 (rw entry-file at (all-at _ 3 fits))
 
-  entry_in : In e entryChoices
+  entry-in : In e entryChoices
   unfolding entryChoices
-  entry_in = Memᴰ.cast (λ i. record { file = entry-file i; page = e.page; slot = e.slot })
-      (in_pairs (λ p r. record { file = 1; page = p; slot = r })
+  entry-in = Memᴰ.cast (λ i. record { file = entry-file i; page = e.page; slot = e.slot })
+      (in-pairs (λ p r. record { file = 1; page = p; slot = r })
       (in-from 2 0 e.page (omega arith) (omega (arith, entry-page))) (in-from 3 0 e.slot (omega arith) (omega (arith, entry-slot))))
 
 -- Entries for other pages.
@@ -60,15 +60,15 @@ few-entries [] fits apart = omega arith
 few-entries (a ∷ []) fits apart = omega arith
 few-entries (a ∷ b ∷ []) fits apart = omega arith
 few-entries (a ∷ b ∷ c ∷ es) fits apart =
-    let fa = and_left (entryFits smallTable a) _ fits in
-    let more = and_right (entryFits smallTable a) _ fits in
-    let fb = and_left (entryFits smallTable b) _ more in
-    let fc = and_left (entryFits smallTable c) _ (and_right (entryFits smallTable b) _ more) in
-    let na = not-true _ (and_left (not (any (λ d. forPage a.file a.page d) (b ∷ c ∷ es))) _ apart) in
+    let fa = and-left (entryFits smallTable a) _ fits in
+    let more = and-right (entryFits smallTable a) _ fits in
+    let fb = and-left (entryFits smallTable b) _ more in
+    let fc = and-left (entryFits smallTable c) _ (and-right (entryFits smallTable b) _ more) in
+    let na = not-true _ (and-left (not (any (λ d. forPage a.file a.page d) (b ∷ c ∷ es))) _ apart) in
     let ab = or-none (forPage a.file a.page b) _ na in
     let ac = or-none (forPage a.file a.page c) _ ab.1 in
-    let rest = and_right (not (any (λ d. forPage a.file a.page d) (b ∷ c ∷ es))) _ apart in
-    let nb = not-true _ (and_left (not (any (λ d. forPage b.file b.page d) (c ∷ es))) _ rest) in
+    let rest = and-right (not (any (λ d. forPage a.file a.page d) (b ∷ c ∷ es))) _ apart in
+    let nb = not-true _ (and-left (not (any (λ d. forPage b.file b.page d) (c ∷ es))) _ rest) in
     let bc = or-none (forPage b.file b.page c) _ nb in
     absurd (no a.page b.page c.page (entry-page a fa) (entry-page b fb) (entry-page c fc)
     (pages-differ a b fa fb ab.0) (pages-differ a c fa fc ac.0) (pages-differ b c fb fc bc.0))
@@ -81,24 +81,24 @@ record-in : (r : Record) → recordFits smallTable r ≡ true → In r recordCho
 unfolding recordChoices entryLists
 record-in r fits =
     let h : RecordFacts smallTable r = record-facts fits in
-    in_pairs (λ s es. record { state = s; entries = es }) (in-from 3 0 r.state (omega arith) (omega (arith, h.state)))
-    (in-flat (λ c. lists_of c entryChoices)
+    in-pairs (λ s es. record { state = s; entries = es }) (in-from 3 0 r.state (omega arith) (omega (arith, h.state)))
+    (in-flat (λ c. listsOf c entryChoices)
     (in-from 3 0 (length r.entries) (omega arith) (omega (arith, few-entries r.entries h.fit h.pages)))
-    (in-lists entryChoices r.entries (λ e p. entry_in e (every_in (entryFits smallTable) h.fit p))))
+    (in-lists entryChoices r.entries (λ e p. entry-in e (every-in (entryFits smallTable) h.fit p))))
 
 -- A map of two slots.
 map-in : (m : List ℕ) → every (λ r. ltb r 3) m ≡ true → length m ≡ 2 → In m mapChoices
 unfolding mapChoices
 map-in m below size =
-    in-flat (λ n. filter (λ m. eqb (slotsLeft m) n) (lists_of 2 mapValues)) (in-from 4 0 (slotsLeft m) (omega arith) (omega arith))
+    in-flat (λ n. filter (λ m. eqb (slotsLeft m) n) (listsOf 2 mapValues)) (in-from 4 0 (slotsLeft m) (omega arith) (omega arith))
     (in-filter (λ (l : List ℕ). eqb (slotsLeft l) (slotsLeft m)) (eq-eqb (slotsLeft m) (slotsLeft m) refl)
-    (rw size at (in-lists mapValues m (λ r p. in-from 3 0 r (omega arith) (omega (arith, ltb-true r 3 (every_in (λ r. ltb r 3) below p)))))))
+    (rw size at (in-lists mapValues m (λ r p. in-from 3 0 r (omega arith) (omega (arith, ltb-true r 3 (every-in (λ r. ltb r 3) below p)))))))
 
 header-in : (records : ℕ → Record) (h : Header) → HeaderFacts smallTable records 1 h → In h headerChoices
 unfolding headerChoices
 header-in records h facts =
-    let holder : h.holder ≤ 1 = by_equal h.holder 0 (λ e. omega arith) (λ n. (facts.holder n).client) in
-    in_pairs (λ k m. record { holder = k; map = m }) (in-from 2 0 h.holder (omega arith) (omega (arith, holder)))
+    let holder : h.holder ≤ 1 = by-equal h.holder 0 (λ e. omega arith) (λ n. (facts.holder n).client) in
+    in-pairs (λ k m. record { holder = k; map = m }) (in-from 2 0 h.holder (omega arith) (omega (arith, holder)))
     (map-in h.map facts.map.below facts.map.size)
 
 -- ------------------------------------------------------------------ volumes
@@ -131,7 +131,7 @@ module _ (v : Volume) (small : IsSmall v) where
   volume-in : In v candidates
   unfolding candidates
   volume-in = Memᴰ.cast is-volume
-      (in_pairs smallVolume (record-in ((view v).records 1) (laws.records 1 (omega arith) (omega arith)))
+      (in-pairs smallVolume (record-in ((view v).records 1) (laws.records 1 (omega arith) (omega arith)))
       (header-in (view v).records ((view v).headers 1) (laws.headers 1 small-file)))
 
 pub complete : Complete

@@ -18,29 +18,29 @@ use Rattle.volume.specs.Lawful.{recordFits, headerFits}
 use Rattle.volume.specs.Volumes.{Volume}
 use Rattle.volume.specs.Sound.{sound}
 use Rattle.volume.specs.Assembled.{fileOwners, owners, joined}
-use Rattle.enumeration.specs.Lists.{In, lists_of}
+use Rattle.enumeration.specs.Lists.{In, listsOf}
 use Rattle.enumeration.specs.Choices.{smallFile, smallTable, entryChoices, entryLists, recordChoices, mapChoices, headerChoices}
 use Rattle.enumeration.specs.Small.{smallVolume, candidates, smallVolumes}
 use Rattle.enumeration.specs.Statements.{Only, orderBytes, InOrder, Once, Counted}
-use Rattle.enumeration.proofs.MemberLaws.{every_in, filter-has}
+use Rattle.enumeration.proofs.MemberLaws.{every-in, filter-has}
 use Rattle.enumeration.proofs.PairLaws.{pairs-case, pairs-filter}
-use Rattle.enumeration.proofs.SmallLaws.{small-length, small-table, small_slot, sound-just}
-use Rattle.enumeration.proofs.OrderLaws.{not_itself, rising, rising-all}
+use Rattle.enumeration.proofs.SmallLaws.{small-length, small-table, small-slot, sound-just}
+use Rattle.enumeration.proofs.OrderLaws.{not-itself, rising, rising-all}
 
 -- ------------------------------------------------------------------ the choices
 records-few : every (λ r. leb (length r.entries) entryLimit) recordChoices ≡ true
-unfolding flat_map lists_of entryChoices entryLists recordChoices
+unfolding flat_map listsOf entryChoices entryLists recordChoices
 records-few = refl
 
 record-few : (r : Record) → In r recordChoices → length r.entries ≤ entryLimit
-record-few r p = leb-true _ _ (every_in (λ r. leb (length r.entries) entryLimit) records-few p)
+record-few r p = leb-true _ _ (every-in (λ r. leb (length r.entries) entryLimit) records-few p)
 
 headers-full : every (λ h. eqb (length h.map) smallFile.pages) headerChoices ≡ true
-unfolding flat_map lists_of mapChoices headerChoices
+unfolding flat_map listsOf mapChoices headerChoices
 headers-full = refl
 
 header-full : (h : Header) → In h headerChoices → length h.map ≡ smallFile.pages
-header-full h p = eqb-true _ _ (every_in (λ h. eqb (length h.map) smallFile.pages) headers-full p)
+header-full h p = eqb-true _ _ (every-in (λ h. eqb (length h.map) smallFile.pages) headers-full p)
 
 pub candidate-length : (v : Volume) → In v candidates → length v ≡ 1536
 unfolding candidates
@@ -56,23 +56,23 @@ volumes-fitted = pairs-filter smallVolume headerChoices sound (recordFits smallT
     (λ r p h q. sound-just r h (record-few r p) (header-full h q))
 
 pub counted : Counted
-unfolding all flat_map lists_of entryChoices entryLists recordChoices mapChoices headerChoices fitted
+unfolding all flat_map listsOf entryChoices entryLists recordChoices mapChoices headerChoices fitted
 counted = ap length volumes-fitted
 
 -- ------------------------------------------------------------------ in order, so each once
 fitted-rising : rising (map orderBytes fitted) ≡ true
-unfolding all flat_map lists_of entryChoices entryLists recordChoices mapChoices headerChoices fitted smallVolume sector padded zeroSector fileBytes encodeTable entryBytes encodeRecord encodeHeader fileOwners owners joined sectorAfter
+unfolding all flat_map listsOf entryChoices entryLists recordChoices mapChoices headerChoices fitted smallVolume sector padded zeroSector fileBytes encodeTable entryBytes encodeRecord encodeHeader fileOwners owners joined sectorAfter
 fitted-rising = refl
 
-pub in_order : InOrder
-in_order i j lt below =
+pub in-order : InOrder
+in-order i j lt below =
     let size : length (map orderBytes fitted) ≡ length fitted = length-map fitted orderBytes in
     let here : j < length fitted = rw volumes-fitted at below in
     rw volumes-fitted (rw (get_or-map orderBytes fitted i [], get_or-map orderBytes fitted j []) at
     (rising-all (orderBytes []) (map orderBytes fitted) fitted-rising i j lt (omega arith)))
 
 pub once : Once
-once i j lt below e = not_itself (orderBytes (get_or smallVolumes j [])) (rw e at (in_order i j lt below))
+once i j lt below e = not-itself (orderBytes (get_or smallVolumes j [])) (rw e at (in-order i j lt below))
 
 -- ------------------------------------------------------------------ no other volume
 pub only : Only
@@ -83,4 +83,4 @@ only v p =
     (λ r m h n e.
     let few = record-few r m in
     let full = header-full h n in
-    rw e (record { is-sound = rw e at q.0; table = small-table r h few full; zeros = small_slot r h few full }))
+    rw e (record { is-sound = rw e at q.0; table = small-table r h few full; zeros = small-slot r h few full }))

@@ -10,12 +10,12 @@ use Rattle.sector.specs.Layout.{itemsRoom, entryLimit}
 use Rattle.sector.specs.Contents.{Record, Header, idleRecord, newHeader}
 use Rattle.sector.specs.Sectors.{storeAt, zeroSector}
 use Rattle.sector.specs.Encoding.{encodeTable, encodeRecord, encodeHeader}
-use Rattle.sector.specs.Shapes.{files_of}
+use Rattle.sector.specs.Shapes.{filesOf}
 use Rattle.sector.proofs.SectorLaws.{store-part, store-behind}
 use Rattle.volume.proofs.FormatLaws.{rest, new-volume}
 use Rattle.sector.proofs.CodecLaws.{table-length, record-length, header-length}
 use Rattle.volume.specs.Places.{sectorAfter}
-use Rattle.volume.specs.Views.{no_header, setRecord, setHeader}
+use Rattle.volume.specs.Views.{noHeader, setRecord, setHeader}
 use Rattle.volume.specs.Volumes.{Volume}
 use Rattle.volume.specs.Stores.{updated}
 use Rattle.volume.specs.Assembled.{fileOwners, owners, joined}
@@ -29,9 +29,9 @@ new-small : newVolume smallTable ≡ smallVolume idleRecord (newHeader smallFile
 unfolding smallVolume owners fileOwners joined rest sectorAfter zeroSector
 new-small = new-volume smallTable
 
-pub laid_out : (v : Volume) (f : Formatted) → length v ≡ 1536 → f ≡ format v 1 (2 ∷ 3 ∷ []) → f.volume ≡ smallVolume idleRecord (newHeader smallFile)
-unfolding format formatTests lengthFits shapeFits endFits all first files_of sectorAfter
-laid_out v f size e = ap (λ (f : Formatted). f.volume) e ∙ rw size new-small
+pub laid-out : (v : Volume) (f : Formatted) → length v ≡ 1536 → f ≡ format v 1 (2 ∷ 3 ∷ []) → f.volume ≡ smallVolume idleRecord (newHeader smallFile)
+unfolding format formatTests lengthFits shapeFits endFits all first filesOf sectorAfter
+laid-out v f size e = ap (λ (f : Formatted). f.volume) e ∙ rw size new-small
 
 -- ------------------------------------------------------------------ the stores
 table-full : length (encodeTable smallTable) ≡ 256
@@ -51,11 +51,11 @@ header-stored r h₀ h few size =
 -- The layout, with record i / 18 and then header i % 18 stored, is candidate i.
 pub candidate-made : (u v w : Volume) (i : ℕ) → i < length candidates → u ≡ smallVolume idleRecord (newHeader smallFile)
     → v ≡ updated smallTable u (setRecord 1 (get_or recordChoices (i / 18) idleRecord))
-    → w ≡ updated smallTable v (setHeader 1 (get_or headerChoices (i % 18) no_header)) → w ≡ get_or candidates i []
+    → w ≡ updated smallTable v (setHeader 1 (get_or headerChoices (i % 18) noHeader)) → w ≡ get_or candidates i []
 unfolding sectorAfter
 candidate-made u v w i lt e d c =
     let r : Record = get_or recordChoices (i / 18) idleRecord in
     let low : i < 2322 = rw candidates-count at lt in
     let few : length r.entries ≤ 2 = rw (record-at (i / 18) (omega arith)) (list-few (i / 18 % 43) (omega arith)) in
-    rw (c, d, e, record-stored idleRecord r (newHeader smallFile) (omega arith), header-stored r (newHeader smallFile) (get_or headerChoices (i % 18) no_header) (omega arith) (omega arith))
+    rw (c, d, e, record-stored idleRecord r (newHeader smallFile) (omega arith), header-stored r (newHeader smallFile) (get_or headerChoices (i % 18) noHeader) (omega arith) (omega arith))
     (sym (candidate-at i low))

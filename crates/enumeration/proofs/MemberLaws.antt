@@ -9,16 +9,16 @@ use native.Mathlib.Nat.{not-suc-le-zero, le_of_suc-le-suc}
 use native.Mathlib.Omega.{arith}
 use lib.ListN.{length, get_or}
 use Rattle.lists.specs.Lists.{if◌then◌else◌, every, filter, from}
-use Rattle.lists.proofs.ListLaws.{and_left, and_right}
-use Rattle.lists.proofs.CaseLaws.{by_equal}
-use Rattle.enumeration.specs.Lists.{In, lists_of}
+use Rattle.lists.proofs.ListLaws.{and-left, and-right}
+use Rattle.lists.proofs.CaseLaws.{by-equal}
+use Rattle.enumeration.specs.Lists.{In, listsOf}
 
 -- ------------------------------------------------------------------ what is in a list
 module _ {A : Type 0} where
   -- What holds at every element.
-  pub every_in : (t : A → Bool) {x : A} {xs : List A} → every t xs ≡ true → In x xs → t x ≡ true
-  every_in t {x} {xs = y ∷ ys} e (Memᴰ.head q) = rw q (and_left (t y) _ e)
-  every_in t {xs = y ∷ ys} e (Memᴰ.tail p) = every_in t (and_right (t y) _ e) p
+  pub every-in : (t : A → Bool) {x : A} {xs : List A} → every t xs ≡ true → In x xs → t x ≡ true
+  every-in t {x} {xs = y ∷ ys} e (Memᴰ.head q) = rw q (and-left (t y) _ e)
+  every-in t {xs = y ∷ ys} e (Memᴰ.tail p) = every-in t (and-right (t y) _ e) p
 
   pub in-filter : (t : A → Bool) {x : A} {xs : List A} → t x ≡ true → In x xs → In x (filter t xs)
   in-filter t {x} {xs = y ∷ ys} e (Memᴰ.head q) = let h : t y ≡ true = rw (← q) e in rw h (Memᴰ.head q)
@@ -39,20 +39,20 @@ in-flat f {xs = z ∷ zs} {y = y} (Memᴰ.head e) q = Memᴰ.append_left (flat_m
 in-flat f {xs = z ∷ zs} (Memᴰ.tail p) q = Memᴰ.append_right (f z) (in-flat f p q)
 
 -- One of the xs with one of the ys.
-pub in_pairs : {A B C : Type 0} (f : A → B → C) {x : A} {y : B} {xs : List A} {ys : List B} → In x xs → In y ys
+pub in-pairs : {A B C : Type 0} (f : A → B → C) {x : A} {y : B} {xs : List A} {ys : List B} → In x xs → In y ys
     → In (f x y) (flat_map (λ x. map (f x) ys) xs)
-in_pairs f {x} {ys = ys} p q = in-flat (λ x. map (f x) ys) p (Memᴰ.map (f x) q)
+in-pairs f {x} {ys = ys} p q = in-flat (λ x. map (f x) ys) p (Memᴰ.map (f x) q)
 
 pub in-from : (n a i : ℕ) → a ≤ i → i < a + n → In i (from a n)
 in-from zero a i lo hi = absurd (not-suc-le-zero {n = 0} (omega arith))
-in-from (suc n) a i lo hi = by_equal i a (λ e. Memᴰ.head e) (λ e. Memᴰ.tail (in-from n (suc a) i (omega arith) (omega arith)))
+in-from (suc n) a i lo hi = by-equal i a (λ e. Memᴰ.head e) (λ e. Memᴰ.tail (in-from n (suc a) i (omega arith) (omega arith)))
 
 -- A list of some of the xs.
 module _ {A : Type 0} (xs : List A) where
-  pub in-lists : (l : List A) → ((y : A) → In y l → In y xs) → In l (lists_of (length l) xs)
-  unfolding lists_of
+  pub in-lists : (l : List A) → ((y : A) → In y l → In y xs) → In l (listsOf (length l) xs)
+  unfolding listsOf
   in-lists [] h = Memᴰ.head refl
-  in-lists (y ∷ l) h = in_pairs (λ x (l : List A). x ∷ l) (h y (Memᴰ.head refl)) (in-lists l (λ z p. h z (Memᴰ.tail p)))
+  in-lists (y ∷ l) h = in-pairs (λ x (l : List A). x ∷ l) (h y (Memᴰ.head refl)) (in-lists l (λ z p. h z (Memᴰ.tail p)))
 
 -- ------------------------------------------------------------------ where an element comes from
 module _ {A : Type 0} where

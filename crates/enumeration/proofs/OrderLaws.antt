@@ -8,7 +8,7 @@ use native.Mathlib.Omega.{arith}
 use borrow.Author.Tests.{ltb-true, eqb-true, lt-ltb, le-ltb, eq-eqb}
 use lib.Dec.{eqb, ltb}
 use lib.ListN.{length, get_or}
-use Rattle.lists.proofs.ListLaws.{and_left, and_right}
+use Rattle.lists.proofs.ListLaws.{and-left, and-right}
 use Rattle.lists.proofs.CaseLaws.{by-test}
 use Rattle.sector.specs.Contents.{Bytes}
 use Rattle.enumeration.specs.Statements.{precedes}
@@ -18,7 +18,7 @@ precedes-case : {X : Type 0} (a b : ℕ) (x y : Bytes) → precedes (a ∷ x) (b
 precedes-case {X} a b x y e k l = by-test (ltb a b) (λ p. k (ltb-true a b p)) (λ p. go (rw p at e))
   where
     go : (eqb a b && precedes x y) ≡ true → X
-    go q = l (eqb-true a b (and_left (eqb a b) _ q)) (and_right (eqb a b) _ q)
+    go q = l (eqb-true a b (and-left (eqb a b) _ q)) (and-right (eqb a b) _ q)
 
 precedes-less : (a b : ℕ) (x y : Bytes) → a < b → precedes (a ∷ x) (b ∷ y) ≡ true
 precedes-less a b x y l = rw (lt-ltb a b l)
@@ -39,9 +39,9 @@ precedes-through (a ∷ x) (b ∷ y) (c ∷ z) p q =
     (λ l. precedes-case b c y z q (λ m. precedes-less a c x z (omega arith)) (λ e r. precedes-less a c x z (omega arith)))
     (λ e r. precedes-case b c y z q (λ m. precedes-less a c x z (omega arith)) (λ f s. precedes-same a c x z (e ∙ f) (precedes-through x y z r s)))
 
-pub not_itself : (x : Bytes) → precedes x x ≡ true → ⊥
-not_itself [] e = false≢true e
-not_itself (a ∷ x) e = precedes-case a a x x e (λ l. omega arith) (λ q r. not_itself x r)
+pub not-itself : (x : Bytes) → precedes x x ≡ true → ⊥
+not-itself [] e = false≢true e
+not-itself (a ∷ x) e = precedes-case a a x x e (λ l. omega arith) (λ q r. not-itself x r)
 
 -- ------------------------------------------------------------------ a list
 -- Each comes before the next one.
@@ -55,9 +55,9 @@ rising-all d [] e i j p q = absurd (not-suc-le-zero q)
 rising-all d (x ∷ []) e i zero p q = absurd (not-suc-le-zero p)
 rising-all d (x ∷ []) e i (suc j) p q = absurd (not-suc-le-zero (le_of_suc-le-suc q))
 rising-all d (x ∷ y ∷ l) e i zero p q = absurd (not-suc-le-zero p)
-rising-all d (x ∷ y ∷ l) e zero (suc zero) p q = and_left (precedes x y) _ e
+rising-all d (x ∷ y ∷ l) e zero (suc zero) p q = and-left (precedes x y) _ e
 rising-all d (x ∷ y ∷ l) e zero (suc (suc j)) p q =
-    precedes-through x y (get_or (y ∷ l) (suc j) d) (and_left (precedes x y) _ e)
-    (rising-all d (y ∷ l) (and_right (precedes x y) _ e) zero (suc j) (omega arith) (le_of_suc-le-suc q))
+    precedes-through x y (get_or (y ∷ l) (suc j) d) (and-left (precedes x y) _ e)
+    (rising-all d (y ∷ l) (and-right (precedes x y) _ e) zero (suc j) (omega arith) (le_of_suc-le-suc q))
 rising-all d (x ∷ y ∷ l) e (suc i) (suc j) p q =
-    rising-all d (y ∷ l) (and_right (precedes x y) _ e) i j (le_of_suc-le-suc p) (le_of_suc-le-suc q)
+    rising-all d (y ∷ l) (and-right (precedes x y) _ e) i j (le_of_suc-le-suc p) (le_of_suc-le-suc q)

@@ -14,10 +14,10 @@ use Rattle.lists.specs.Lists.{if◌then◌else◌, filter}
 use Rattle.enumeration.specs.Lists.{In}
 
 -- Element i of a list that a function was applied to.
-pub map_at : {B C : Type 0} (g : B → C) (ys : List B) (i : ℕ) (dy : B) (dz : C) → i < length ys → get_or (map g ys) i dz ≡ g (get_or ys i dy)
-map_at g [] i dy dz lt = absurd (not-suc-le-zero lt)
-map_at g (y ∷ ys) zero dy dz lt = refl
-map_at g (y ∷ ys) (suc i) dy dz lt = map_at g ys i dy dz (le_of_suc-le-suc lt)
+pub map-at : {B C : Type 0} (g : B → C) (ys : List B) (i : ℕ) (dy : B) (dz : C) → i < length ys → get_or (map g ys) i dz ≡ g (get_or ys i dy)
+map-at g [] i dy dz lt = absurd (not-suc-le-zero lt)
+map-at g (y ∷ ys) zero dy dz lt = refl
+map-at g (y ∷ ys) (suc i) dy dz lt = map-at g ys i dy dz (le_of_suc-le-suc lt)
 
 module _ {A B C : Type 0} (f : A → B → C) (ys : List B) where
   abbrev pairs : List A → List C
@@ -38,8 +38,8 @@ module _ {A B C : Type 0} (f : A → B → C) (ys : List B) where
   pairs-at [] a b dx dy dz lt le = absurd (not-suc-le-zero lt)
   pairs-at (x ∷ xs) zero b dx dy dz lt le =
       let z : length ys * 0 + b ≡ b = omega arith in
-      let in_row : b < length (map (f x) ys) = rw (length-map ys (f x)) le in
-      rw z (get_or-append (map (f x) ys) (pairs xs) dz b in_row ∙ map_at (f x) ys b dy dz le)
+      let in-row : b < length (map (f x) ys) = rw (length-map ys (f x)) le in
+      rw z (get_or-append (map (f x) ys) (pairs xs) dz b in-row ∙ map-at (f x) ys b dy dz le)
   pairs-at (x ∷ xs) (suc a) b dx dy dz lt le =
       let z : length ys * suc a + b ≡ length (map (f x) ys) + (length ys * a + b) =
       rw (length-map ys (f x), mul-suc (length ys) a) (turn (length ys) (length ys * a) b) in

@@ -11,12 +11,12 @@ use Rattle.sector.specs.Encoding.{fileBytes, encodeTable, entryBytes, encodeReco
 use Rattle.sector.specs.Decoding.{decodeFiles, decodeTable, decodeEntries, decodeRecord, decodeHeader}
 use Rattle.volume.specs.Places.{sectorAfter}
 use Rattle.volume.specs.Lawful.{lawful}
-use Rattle.volume.specs.Volumes.{Volume, table_of, recordIn, headerIn, slotIn, view}
+use Rattle.volume.specs.Volumes.{Volume, tableOf, recordIn, headerIn, slotIn, view}
 use Rattle.volume.specs.Sound.{encoded, canonical, sound}
 use Rattle.volume.specs.Assembled.{fileOwners, owners, joined}
 use Rattle.volume.specs.Format.{repeated, newFiles, newVolume}
 use Rattle.enumeration.specs.declared.AdvanceOutcome.{AdvanceOutcome}
-use Rattle.enumeration.specs.Lists.{lists_of}
+use Rattle.enumeration.specs.Lists.{listsOf}
 use Rattle.enumeration.specs.Choices.{smallFile, smallTable, entryChoices, entryLists, recordChoices, slotsLeft, mapChoices, headerChoices}
 use Rattle.enumeration.specs.Small.{smallVolume, candidates, smallVolumes}
 use Rattle.enumeration.specs.Statements.{precedes}
@@ -25,8 +25,8 @@ use Rattle.enumeration.proofs.CountLaws.{fitted, volumes-fitted}
 
 -- ------------------------------------------------------------------ lists and their order
 -- None, and two, of two, the first element slowest.
-lists-of : lists_of {A = ℕ} 0 (1 ∷ 5 ∷ []) ++ lists_of 2 (1 ∷ 5 ∷ []) ≡ [] ∷ (1 ∷ 1 ∷ []) ∷ (1 ∷ 5 ∷ []) ∷ (5 ∷ 1 ∷ []) ∷ (5 ∷ 5 ∷ []) ∷ []
-unfolding flat_map lists_of
+lists-of : listsOf {A = ℕ} 0 (1 ∷ 5 ∷ []) ++ listsOf 2 (1 ∷ 5 ∷ []) ≡ [] ∷ (1 ∷ 1 ∷ []) ∷ (1 ∷ 5 ∷ []) ∷ (5 ∷ 1 ∷ []) ∷ (5 ∷ 5 ∷ []) ∷ []
+unfolding flat_map listsOf
 lists-of = refl
 
 -- The first place that differs decides, whatever comes behind it; a front comes before the whole.
@@ -38,8 +38,8 @@ comes-not-before : precedes (2 ∷ 0 ∷ []) (1 ∷ 9 ∷ []) ∷ precedes (1 �
     ≡ false ∷ false ∷ false ∷ []
 comes-not-before = refl
 
-not_itself : precedes (1 ∷ 2 ∷ []) (1 ∷ 2 ∷ []) ∷ precedes [] [] ∷ [] ≡ false ∷ false ∷ []
-not_itself = refl
+not-itself : precedes (1 ∷ 2 ∷ []) (1 ∷ 2 ∷ []) ∷ precedes [] [] ∷ [] ≡ false ∷ false ∷ []
+not-itself = refl
 
 -- ------------------------------------------------------------------ choices
 -- "T = 1, F = 1, P = 2, R = 3, N = 6": mark, N, T, F, 00 00, the file's header in sector 2, P and R.
@@ -59,9 +59,9 @@ slots-left = refl
 
 -- ------------------------------------------------------------------ small volumes
 -- The first is the one that format lays out.
-first_small : get_or smallVolumes 0 [] ≡ newVolume smallTable
-unfolding all flat_map lists_of entryChoices entryLists recordChoices mapChoices headerChoices fitted smallVolume padded zeroSector fileBytes encodeTable entryBytes encodeRecord encodeHeader fileOwners owners joined sectorAfter newVolume repeated newFiles
-first_small = ap (λ (l : List Volume). get_or l 0 []) volumes-fitted
+first-small : get_or smallVolumes 0 [] ≡ newVolume smallTable
+unfolding all flat_map listsOf entryChoices entryLists recordChoices mapChoices headerChoices fitted smallVolume padded zeroSector fileBytes encodeTable entryBytes encodeRecord encodeHeader fileOwners owners joined sectorAfter newVolume repeated newFiles
+first-small = ap (λ (l : List Volume). get_or l 0 []) volumes-fitted
 
 -- The last one: decided, page 1 to slot 2 and page 0 to slot 1; nobody holds the file, and its map is 02 01.
 abbrev lastVolume : Volume
@@ -69,7 +69,7 @@ lastVolume = smallVolume (record { state = 2; entries = record { file = 1; page 
     (record { holder = 0; map = 2 ∷ 1 ∷ [] })
 
 last-small : get_or smallVolumes 269 [] ≡ lastVolume
-unfolding all flat_map lists_of entryChoices entryLists recordChoices mapChoices headerChoices fitted
+unfolding all flat_map listsOf entryChoices entryLists recordChoices mapChoices headerChoices fitted
 last-small = ap (λ (l : List Volume). get_or l 269 []) volumes-fitted
 
 -- ------------------------------------------------------------------ advances
@@ -87,17 +87,17 @@ unfolding advance sevens
 short-at-the-end = refl
 
 -- So a walk there puts nothing.
-no_walk : walked 1 (sevens 1535) 0 ≡ []
+no-walk : walked 1 (sevens 1535) 0 ≡ []
 unfolding walked advance sevens
-no_walk = refl
+no-walk = refl
 
 -- Candidate 0 has the map 00 00, which isn't sound; 1 is.
 first-advance : advance (sevens 1536) 0 ≡ record { answer = AdvanceOutcome.To 2; volume = smallVolume idleRecord (newHeader smallFile) }
-unfolding sevens flat_map lists_of entryChoices entryLists recordChoices mapChoices headerChoices candidates firstSound advance smallVolume owners fileOwners joined zeroSector all sector padded fileBytes encodeTable entryBytes encodeRecord encodeHeader decodeFiles decodeTable decodeEntries decodeRecord decodeHeader sectorAfter lawful table_of recordIn headerIn slotIn view encoded canonical sound
+unfolding sevens flat_map listsOf entryChoices entryLists recordChoices mapChoices headerChoices candidates firstSound advance smallVolume owners fileOwners joined zeroSector all sector padded fileBytes encodeTable entryBytes encodeRecord encodeHeader decodeFiles decodeTable decodeEntries decodeRecord decodeHeader sectorAfter lawful tableOf recordIn headerIn slotIn view encoded canonical sound
 first-advance = refl
 
 -- Candidate 2,239 is the last that is sound; there are 2,322.
 last-advances : map (advance (sevens 1536)) (2239 ∷ 2240 ∷ 2322 ∷ 5000 ∷ [])
     ≡ record { answer = AdvanceOutcome.To 2240; volume = lastVolume } ∷ map (λ (n : ℕ). record { answer = AdvanceOutcome.End; volume = sevens 1536 }) (1 ∷ 2 ∷ 3 ∷ [])
-unfolding sevens flat_map lists_of entryChoices entryLists recordChoices mapChoices headerChoices candidates firstSound advance smallVolume owners fileOwners joined zeroSector all sector padded fileBytes encodeTable entryBytes encodeRecord encodeHeader decodeFiles decodeTable decodeEntries decodeRecord decodeHeader sectorAfter lawful table_of recordIn headerIn slotIn view encoded canonical sound
+unfolding sevens flat_map listsOf entryChoices entryLists recordChoices mapChoices headerChoices candidates firstSound advance smallVolume owners fileOwners joined zeroSector all sector padded fileBytes encodeTable entryBytes encodeRecord encodeHeader decodeFiles decodeTable decodeEntries decodeRecord decodeHeader sectorAfter lawful tableOf recordIn headerIn slotIn view encoded canonical sound
 last-advances = refl

@@ -14,7 +14,7 @@ use Rattle.volume.specs.Places.{IsFile, fileAt, sectorAfter}
 use Rattle.volume.specs.Lawful.{recordFits, headerFits, lawful}
 use Rattle.volume.specs.Volumes.{view}
 use Rattle.volume.specs.Sound.{sound}
-use Rattle.volume.proofs.VolumeOfLaws.{Sized, of_length, of-table, of-slot, of-sound}
+use Rattle.volume.proofs.VolumeOfLaws.{Sized, of-length, of-table, of-slot, of-sound}
 use Rattle.enumeration.specs.Choices.{smallFile, smallTable}
 use Rattle.enumeration.specs.Small.{smallView, smallVolume}
 
@@ -41,15 +41,15 @@ module _ (r : Record) (h : Header) (few : length r.entries ≤ entryLimit) (size
 
   pub small-length : length (smallVolume r h) ≡ 1536
   unfolding smallVolume sectorAfter
-  small-length = of_length (smallView r h) sized []
+  small-length = of-length (smallView r h) sized []
 
   pub small-table : (view (smallVolume r h)).table ≡ smallTable
   unfolding smallVolume
   small-table = of-table (smallView r h) sized []
 
-  pub small_slot : (s : ℕ) → s < smallFile.slots → (view (smallVolume r h)).slots 1 s ≡ zeroSector
+  pub small-slot : (s : ℕ) → s < smallFile.slots → (view (smallVolume r h)).slots 1 s ≡ zeroSector
   unfolding smallVolume
-  small_slot s lt = of-slot (smallView r h) sized [] 1 s small-file lt
+  small-slot s lt = of-slot (smallView r h) sized [] 1 s small-file lt
 
   lawful-just : lawful (smallView r h) ≡ (recordFits smallTable r && headerFits (λ k. r) smallTable 1 h)
   unfolding lawful all sectorAfter

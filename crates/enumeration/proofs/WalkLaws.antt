@@ -22,11 +22,11 @@ use Rattle.enumeration.proofs.AdvanceLaws.{advance-fits}
 
 -- ------------------------------------------------------------------ what is left
 -- By the number that is found.
-left_at : ℕ → List Volume
-left_at i = if ltb i (length candidates) then get_or candidates i [] ∷ filter sound (drop (suc i) candidates) else []
+leftAt : ℕ → List Volume
+leftAt i = if ltb i (length candidates) then get_or candidates i [] ∷ filter sound (drop (suc i) candidates) else []
 
-left-found : (cs : List Volume) (n : ℕ) → drop n candidates ≡ cs → filter sound cs ≡ left_at (firstSound n cs)
-unfolding firstSound left_at
+left-found : (cs : List Volume) (n : ℕ) → drop n candidates ≡ cs → filter sound cs ≡ leftAt (firstSound n cs)
+unfolding firstSound leftAt
 left-found [] n e =
     let over : length candidates ≤ n = omega (arith, length-drop n candidates, ap length e) in
     rw (le-ltb _ _ over)
@@ -47,15 +47,15 @@ behind : (n : ℕ) → drop (passed n) smallVolumes ≡ filter sound (drop n can
 unfolding smallVolumes
 behind n = passed-drop n candidates
 
-left_behind : (n : ℕ) → drop (passed n) smallVolumes ≡ left_at (firstSound n (drop n candidates))
-left_behind n = behind n ∙ left-found (drop n candidates) n refl
+left-behind : (n : ℕ) → drop (passed n) smallVolumes ≡ leftAt (firstSound n (drop n candidates))
+left-behind n = behind n ∙ left-found (drop n candidates) n refl
 
 -- ------------------------------------------------------------------ one advance
 pub puts-next : PutsNext
-unfolding left_at
+unfolding leftAt
 puts-next v n fits =
     let i = firstSound n (drop n candidates) in
-    let left = left_behind n in
+    let left = left-behind n in
     let size = length-drop (passed n) smallVolumes in
     let at : get_or (drop (passed n) smallVolumes) 0 [] ≡ get_or smallVolumes (passed n) [] = rw (add-zero (passed n)) at (get_or-drop (passed n) smallVolumes 0 []) in
     advance-fits v n fits ∙ by-test (ltb i (length candidates))
@@ -70,14 +70,14 @@ puts-next v n fits =
 
 -- ------------------------------------------------------------------ a walk
 pub walks : Walks
-unfolding walked left_at
+unfolding walked leftAt
 walks v fits zero n = refl
 walks v fits (suc times) n =
     ap (λ (s : Advanced). volumesFrom (walked times) s.answer s.volume) (advance-fits v n fits)
-    ∙ (go (λ i w full. walks w full times (suc i)) (firstSound n (drop n candidates)) ∙ ap (take (suc times)) (sym (left_behind n)))
+    ∙ (go (λ i w full. walks w full times (suc i)) (firstSound n (drop n candidates)) ∙ ap (take (suc times)) (sym (left-behind n)))
   where
     go : ((i : ℕ) (w : Volume) → length w ≡ 256 * smallTable.sectors → walked times w (suc i) ≡ take times (drop (passed (suc i)) smallVolumes))
-        → (i : ℕ) → volumesFrom (walked times) (advanceTo v i).answer (advanceTo v i).volume ≡ take (suc times) (left_at i)
+        → (i : ℕ) → volumesFrom (walked times) (advanceTo v i).answer (advanceTo v i).volume ≡ take (suc times) (leftAt i)
     go later i = by-test (ltb i (length candidates))
         (λ t.
         let full = candidate-length (get_or candidates i []) (in-at candidates i [] (ltb-true i (length candidates) t)) in

@@ -4,7 +4,7 @@ use Rattle.std.specs.Prelude.{ℕ, suc, ◌-◌, eqb, ltb, length}
 use Rattle.lists.specs.Lists.{filter, from}
 use Rattle.sector.specs.Layout.{decidedState}
 use Rattle.sector.specs.Contents.{File, Table, Entry, Record, Header}
-use Rattle.enumeration.specs.Lists.{lists_of}
+use Rattle.enumeration.specs.Lists.{listsOf}
 
 -- "P = 2, R = 3"
 abbrev pub smallFile : File
@@ -32,7 +32,7 @@ countChoices = from 0 (suc smallFile.pages)
 
 -- Every list of so many entries, by their number and then by the entries.
 unfoldable pub entryLists : List (List Entry)
-entryLists = flat_map (λ c. lists_of c entryChoices) countChoices
+entryLists = flat_map (λ c. listsOf c entryChoices) countChoices
 
 -- "State: 0 idle, 1 open, 2 decided."
 abbrev pub stateChoices : List ℕ
@@ -57,7 +57,7 @@ slotsLeft m = smallFile.slots - length (filter (λ r. ltb r smallFile.slots) m)
 -- Every map, by the slots that it leaves free, then by its bytes: byte 3 of a header stands before the map, and M-104 makes it
 -- that number.
 unfoldable pub mapChoices : List (List ℕ)
-mapChoices = flat_map (λ n. filter (λ m. eqb (slotsLeft m) n) (lists_of smallFile.pages mapValues)) (from 0 (suc smallFile.slots))
+mapChoices = flat_map (λ n. filter (λ m. eqb (slotsLeft m) n) (listsOf smallFile.pages mapValues)) (from 0 (suc smallFile.slots))
 
 -- Every header, by holder and then by its map.
 unfoldable pub headerChoices : List Header

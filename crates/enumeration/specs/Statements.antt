@@ -2,7 +2,7 @@
 use Rattle.std.specs.Prelude.{◌≡◌, Bool, true, false, ◌&&◌, ◌||◌, [], ◌∷◌, ◌++◌, ◌≢◌, ℕ, ◌<◌, eqb, ltb, length, get_or}
 use Rattle.sector.specs.Contents.{Bytes}
 use Rattle.volume.specs.Places.{recordPlace, headerPlace}
-use Rattle.volume.specs.Volumes.{Volume, bytes_at}
+use Rattle.volume.specs.Volumes.{Volume, bytesAt}
 use Rattle.enumeration.specs.Lists.{In}
 use Rattle.enumeration.specs.Choices.{smallTable}
 use Rattle.enumeration.specs.Small.{IsSmall, smallVolumes}
@@ -24,7 +24,7 @@ precedes (x ∷ xs) (y ∷ ys) = ltb x y || (eqb x y && precedes xs ys)
 
 -- "the bytes of the record sector and then of the header sector"
 abbrev pub orderBytes : Volume → Bytes
-orderBytes v = bytes_at smallTable v (recordPlace 1) ++ bytes_at smallTable v (headerPlace 1)
+orderBytes v = bytesAt smallTable v (recordPlace 1) ++ bytesAt smallTable v (headerPlace 1)
 
 -- "ordered by" these: each comes before every later one.
 abbrev pub InOrder : Type 0

@@ -6,7 +6,7 @@ ghost use Rattle.sector.specs.Contents.{Record, idleRecord, appended};
 ghost use Rattle.sector.specs.Sectors.{zeroSector};
 ghost use Rattle.sector.specs.Encoding.{encodeRecord, encodeHeader};
 ghost use Rattle.sector.specs.Decoding.{countIn};
-ghost use Rattle.volume.specs.Views.{no_header, setRecord, setHeader};
+ghost use Rattle.volume.specs.Views.{noHeader, setRecord, setHeader};
 ghost use Rattle.volume.specs.Stores.{updated};
 ghost use Rattle.volume.specs.WellFormed.{noEntry};
 ghost use Rattle.enumeration.specs.Choices.{smallFile, smallTable, entryChoices, entryLists, recordChoices, headerChoices};
@@ -45,7 +45,7 @@ fn build_record(buf: &mut [u8; 256], state: u8, list: usize)
 // Header b, made of zeros.
 fn build_header(buf: &mut [u8; 256], b: usize)
     requires { (buf.old ≡ zeroSector) × (b < length headerChoices) }
-    ensures buf_after { buf.new ≡ encodeHeader smallFile (get_or headerChoices b no_header) }
+    ensures buf_after { buf.new ≡ encodeHeader smallFile (get_or headerChoices b noHeader) }
     ensures buf_len { length buf.new ≡ 256 }
 {
     let map = map_at(b % Choices::MAPS);
@@ -69,7 +69,7 @@ fn put_record(v: &mut [u8], a: usize)
 // Header b is stored.
 fn put_header(v: &mut [u8], b: usize)
     requires { (length v.old ≡ 256 * smallTable.sectors) × (b < length headerChoices) }
-    ensures { v.new ≡ updated smallTable v.old (setHeader 1 (get_or headerChoices b no_header)) }
+    ensures { v.new ≡ updated smallTable v.old (setHeader 1 (get_or headerChoices b noHeader)) }
 {
     let mut buf = zeros();
     build_header(&mut buf, b);

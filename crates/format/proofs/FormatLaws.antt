@@ -10,9 +10,9 @@ use Rattle.lists.specs.Lists.{if◌then◌else◌, first}
 use Rattle.sector.specs.Layout.{sectorLimit, fileLimit}
 use Rattle.sector.specs.Contents.{Bytes}
 use Rattle.volume.specs.Volumes.{Volume}
-use Rattle.lists.proofs.ListLaws.{all-at, and_left, and_right, between-true}
+use Rattle.lists.proofs.ListLaws.{all-at, and-left, and-right, between-true}
 use Rattle.volume.specs.Format.{lengthFits, shapeFits, endFits, tableFor, formatTests, formatBy, format}
-use Rattle.volume.proofs.PlaceLaws.{end_low}
+use Rattle.volume.proofs.PlaceLaws.{end-low}
 use Rattle.format.specs.Requests.{Fits}
 
 pub format-is : (v : Volume) (T : ℕ) (l : Bytes) → format v T l ≡ formatBy
@@ -29,10 +29,10 @@ module _ (n T : ℕ) (l : Bytes) where
   pub fits : lengthFits n ≡ true → shapeFits T l ≡ true → endFits n T l ≡ true → Fits n T l
   unfolding lengthFits shapeFits endFits
   fits a b c =
-      let whole : n % 256 ≡ 0 = eqb-true (n % 256) 0 (and_left (eqb (n % 256) 0) _ a) in
-      let few : n / 256 ≤ sectorLimit = leb-true (n / 256) sectorLimit (and_right (eqb (n % 256) 0) _ a) in
+      let whole : n % 256 ≡ 0 = eqb-true (n % 256) 0 (and-left (eqb (n % 256) 0) _ a) in
+      let few : n / 256 ≤ sectorLimit = leb-true (n / 256) sectorLimit (and-right (eqb (n % 256) 0) _ a) in
       record { size = omega arith; small = omega arith; short = shape-short b; files = all-at _ 3 b; ends = leb-true _ _ c }
 
   -- There is room for the table and the records.
   pub fits-room : Fits n T l → 256 * T + 256 ≤ n
-  fits-room f = omega (arith, end_low (tableFor n T l), f.size, f.ends)
+  fits-room f = omega (arith, end-low (tableFor n T l), f.size, f.ends)

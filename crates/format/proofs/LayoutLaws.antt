@@ -17,13 +17,13 @@ use Rattle.lists.proofs.ListLaws.{all-at}
 use Rattle.sector.proofs.CodecLaws.{table-length, record-length}
 use Rattle.volume.specs.Places.{sectorAfter, endSector}
 use Rattle.volume.specs.Lawful.{fileFits}
-use Rattle.sector.specs.Shapes.{files_of, pair_at}
+use Rattle.sector.specs.Shapes.{filesOf, pairAt}
 use Rattle.volume.specs.Format.{repeated, newFiles, newVolume}
 use Rattle.volume.proofs.PlaceLaws.{after-least}
 use Rattle.sector.specs.Puts.{Puts}
 use Rattle.sector.proofs.PutsLaws.{puts-zeros, puts-more, puts-store}
 use Rattle.sector.proofs.ShapeLaws.{files-from}
-use Rattle.format.proofs.RequestLaws.{first_fits}
+use Rattle.format.proofs.RequestLaws.{first-fits}
 use Rattle.volume.proofs.FormatLaws.{repeated-length, new-header-length, new-files-length}
 
 -- ------------------------------------------------------------------ the records
@@ -41,40 +41,40 @@ records-turn n k b lo hi w rest =
 
 -- ------------------------------------------------------------------ the files
 -- File i's header is stored in sector h; its slots stay zeros.
-pub files-turn : (l : Bytes) (i h : ℕ) (b : Bytes) → i < length l / 2 → every fileFits (drop i (files_of l)) ≡ true
-    → (w : Bytes) → Puts (256 * (h + 1 + (pair_at l i).slots)) (newFiles (drop (i + 1) (files_of l))) (storeAt b h (encodeHeader (pair_at l i) (newHeader (pair_at l i)))) w
-    → Puts (256 * h) (newFiles (drop i (files_of l))) b w
+pub files-turn : (l : Bytes) (i h : ℕ) (b : Bytes) → i < length l / 2 → every fileFits (drop i (filesOf l)) ≡ true
+    → (w : Bytes) → Puts (256 * (h + 1 + (pairAt l i).slots)) (newFiles (drop (i + 1) (filesOf l))) (storeAt b h (encodeHeader (pairAt l i) (newHeader (pairAt l i)))) w
+    → Puts (256 * h) (newFiles (drop i (filesOf l))) b w
 unfolding newFiles
 files-turn l i h b lt fits w rest =
-    let x : File = pair_at l i in
-    let full = new-header-length x (first_fits l i lt fits) in
+    let x : File = pairAt l i in
+    let full = new-header-length x (first-fits l i lt fits) in
     let e : 256 * (h + 1 + x.slots) ≡ 256 * h + 256 + length (replicate {A = ℕ} (256 * x.slots) 0) = rw (length-replicate {A = ℕ} (256 * x.slots) 0) (omega arith) in
     rw (files-from l i lt) (puts-more (256 * h) (256 * h + 256) _ _ b _ w (omega (arith, full)) (puts-store h _ b full)
     (puts-more (256 * h + 256) (256 * (h + 1 + x.slots)) (replicate (256 * x.slots) 0) _ _ _ w e (puts-zeros (256 * h + 256) (256 * x.slots) _) rest))
 
 -- There is room for its header, and it is in range.
-pub file-room : (l : Bytes) (i h n : ℕ) → i < length l / 2 → 256 * sectorAfter h (drop i (files_of l)) ≤ n → 256 * h + 256 ≤ n
+pub file-room : (l : Bytes) (i h n : ℕ) → i < length l / 2 → 256 * sectorAfter h (drop i (filesOf l)) ≤ n → 256 * h + 256 ≤ n
 unfolding sectorAfter
 file-room l i h n lt room =
-    let r : 256 * sectorAfter (h + 1 + (pair_at l i).slots) (drop (i + 1) (files_of l)) ≤ n = rw (files-from l i lt) at room in
-    omega (arith, after-least (h + 1 + (pair_at l i).slots) (drop (i + 1) (files_of l)))
+    let r : 256 * sectorAfter (h + 1 + (pairAt l i).slots) (drop (i + 1) (filesOf l)) ≤ n = rw (files-from l i lt) at room in
+    omega (arith, after-least (h + 1 + (pairAt l i).slots) (drop (i + 1) (filesOf l)))
 
-pub file-pages : (l : Bytes) (i : ℕ) → i < length l / 2 → every fileFits (drop i (files_of l)) ≡ true → (pair_at l i).pages ≤ itemsRoom
+pub file-pages : (l : Bytes) (i : ℕ) → i < length l / 2 → every fileFits (drop i (filesOf l)) ≡ true → (pairAt l i).pages ≤ itemsRoom
 file-pages l i lt fits =
-    let h : (pair_at l i).pages ≤ pageLimit = leb-true _ _ (all-at _ 1 (first_fits l i lt fits)) in
+    let h : (pairAt l i).pages ≤ pageLimit = leb-true _ _ (all-at _ 1 (first-fits l i lt fits)) in
     omega arith
 
-pub file-slots : (l : Bytes) (i : ℕ) → i < length l / 2 → every fileFits (drop i (files_of l)) ≡ true → (pair_at l i).pages ≤ (pair_at l i).slots
-file-slots l i lt fits = leb-true _ _ (all-at _ 2 (first_fits l i lt fits))
+pub file-slots : (l : Bytes) (i : ℕ) → i < length l / 2 → every fileFits (drop i (filesOf l)) ≡ true → (pairAt l i).pages ≤ (pairAt l i).slots
+file-slots l i lt fits = leb-true _ _ (all-at _ 2 (first-fits l i lt fits))
 
 -- ------------------------------------------------------------------ all of it
-pub laid_out : (t : Table) (a c e : Bytes) → a ≡ replicate (256 * t.sectors) 0
+pub laid-out : (t : Table) (a c e : Bytes) → a ≡ replicate (256 * t.sectors) 0
     → length t.files ≤ entryLimit → every fileFits t.files ≡ true → endSector t ≤ t.sectors
     → Puts 256 (repeated t.clients (encodeRecord idleRecord)) (storeAt a 0 (encodeTable t)) c
     → Puts (256 * (t.clients + 1)) (newFiles t.files) c e
     → e ≡ newVolume t
 unfolding newVolume Puts
-laid_out t a c e zeros few fits ends records files =
+laid-out t a c e zeros few fits ends records files =
     let d : Bytes = encodeTable t in
     let r : Bytes = repeated t.clients (encodeRecord idleRecord) in
     let f : Bytes = newFiles t.files in

@@ -8,7 +8,7 @@ ghost use Rattle.sector.specs.Sectors.{storeAt};
 ghost use Rattle.sector.specs.Encoding.{encodeTable, encodeRecord, encodeHeader};
 ghost use Rattle.volume.specs.Places.{sectorAfter};
 ghost use Rattle.volume.specs.Lawful.{fileFits};
-ghost use Rattle.sector.specs.Shapes.{files_of, pair_at};
+ghost use Rattle.sector.specs.Shapes.{filesOf, pairAt};
 ghost use Rattle.volume.specs.Format.{tableFor, repeated, newFiles, newVolume};
 ghost use Rattle.format.specs.Requests.{Fits};
 ghost use Rattle.sector.specs.Puts.{Puts};
@@ -62,9 +62,9 @@ fn put_records(v: &mut [u8], clients: usize)
 // The header of the file with index i is stored in sector h.
 fn put_header(v: &mut [u8], h: usize, shape: &[u8], i: usize)
     requires { (256 * h + 256 ≤ length v.old) × (h ≤ 65536) × (length shape.now ≤ 2 * fileLimit)
-        × (i < length shape.now / 2) × ((pair_at shape.now i).pages ≤ itemsRoom)
-        × ((pair_at shape.now i).pages ≤ (pair_at shape.now i).slots) }
-    ensures { v.new ≡ storeAt v.old h (encodeHeader (pair_at shape.now i) (newHeader (pair_at shape.now i))) }
+        × (i < length shape.now / 2) × ((pairAt shape.now i).pages ≤ itemsRoom)
+        × ((pairAt shape.now i).pages ≤ (pairAt shape.now i).slots) }
+    ensures { v.new ≡ storeAt v.old h (encodeHeader (pairAt shape.now i) (newHeader (pairAt shape.now i))) }
 {
     let mut buf = zeros();
     new_header(&mut buf, shape, i);
@@ -73,9 +73,9 @@ fn put_header(v: &mut [u8], h: usize, shape: &[u8], i: usize)
 
 // The headers of all files, the first one's in sector `first`. Their slots are zeros already.
 fn put_files(v: &mut [u8], first: usize, shape: &[u8])
-    requires { (256 * sectorAfter first (files_of shape.now) ≤ length v.old) × (length v.old ≤ 256 * sectorLimit)
-        × (length shape.now ≤ 2 * fileLimit) × (every fileFits (files_of shape.now) ≡ true) }
-    ensures { Puts (256 * first) (newFiles (files_of shape.now)) v.old v.new }
+    requires { (256 * sectorAfter first (filesOf shape.now) ≤ length v.old) × (length v.old ≤ 256 * sectorLimit)
+        × (length shape.now ≤ 2 * fileLimit) × (every fileFits (filesOf shape.now) ≡ true) }
+    ensures { Puts (256 * first) (newFiles (filesOf shape.now)) v.old v.new }
 {
     let n = shape.len() / 2;
     let mut h = first;

@@ -6,7 +6,7 @@ ghost use Rattle.sector.specs.Contents.{firstHeader};
 ghost use Rattle.volume.specs.Places.{sectorAfter};
 ghost use Rattle.volume.specs.Lawful.{fileFits};
 ghost use Rattle.volume.specs.Format.{lengthFits, shapeFits};
-ghost use Rattle.sector.specs.Shapes.{files_of};
+ghost use Rattle.sector.specs.Shapes.{filesOf};
 
 use sector::{Limits, Sector, wide};
 use volume::file_fits;
@@ -45,7 +45,7 @@ pub fn shape_fits(clients: u8, shape: &[u8]) -> bool
 
 // Whether every file of the list is in range.
 fn files_fit(shape: &[u8]) -> bool
-    ensures { result ≡ every fileFits (files_of shape.now) }
+    ensures { result ≡ every fileFits (filesOf shape.now) }
 {
     let n = shape.len() / 2;
     let mut i = 0;
@@ -61,7 +61,7 @@ fn files_fit(shape: &[u8]) -> bool
 // The sector after the last file.
 pub fn end_sector(clients: u8, shape: &[u8]) -> usize
     requires { length shape.now ≤ 2 * fileLimit }
-    ensures { result ≡ sectorAfter (firstHeader clients) (files_of shape.now) }
+    ensures { result ≡ sectorAfter (firstHeader clients) (filesOf shape.now) }
 {
     let n = shape.len() / 2;
     let mut h = wide(clients) + 1;

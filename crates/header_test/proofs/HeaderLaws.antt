@@ -18,7 +18,7 @@ use Rattle.sector.proofs.CodecLaws.{decoded-map}
 use Rattle.lists.proofs.TestLaws.{all-no}
 use Rattle.volume.specs.Places.{recordPlace, headerPlace}
 use Rattle.volume.specs.Lawful.{holderFits, headerFits}
-use Rattle.volume.specs.Volumes.{Volume, bytes_at, recordIn}
+use Rattle.volume.specs.Volumes.{Volume, bytesAt, recordIn}
 use Rattle.volume.proofs.PlaceLaws.{is-client}
 use Rattle.byteset.specs.Set.{noBytes, hasByte, withByte, Holds}
 use Rattle.byteset.proofs.SetLaws.{has-none}
@@ -27,7 +27,7 @@ use Rattle.header_test.specs.Header.{mapFits, Scanned, slotsApart, holderTest, h
 use Rattle.table_test.proofs.DecodingLaws.{file-is}
 use Rattle.table_test.proofs.TableLaws.{clients-are}
 use Rattle.record_test.proofs.RecordLaws.{state-in}
-use Rattle.byteset.proofs.WalkLaws.{Walk, walk_none, walk-seen, walk_more, walk-done}
+use Rattle.byteset.proofs.WalkLaws.{Walk, walk-none, walk-seen, walk-more, walk-done}
 
 -- ------------------------------------------------------------------ the map, as `map_fits` tests it
 -- Of the map m the slots before `left` are tested, and are in the set.
@@ -37,7 +37,7 @@ pub record MapLeft (R : ℕ) (m left s : List ℕ) : Type 0 where
   pub words : length s ≡ 4
 
 pub map-all : (R : ℕ) (m s : List ℕ) → s ≡ noBytes → MapLeft R m m s
-map-all R m s e = record { low = refl; walk = walk_none m s (λ y. rw e (has-none y)); words = rw e }
+map-all R m s e = record { low = refl; walk = walk-none m s (λ y. rw e (has-none y)); words = rw e }
 
 module _ {R : ℕ} {m left s : List ℕ} (l : MapLeft R m left s) (r : ℕ) (rest : List ℕ) (next : left ≡ r ∷ rest) where
   here : MapLeft R m (r ∷ rest) s
@@ -47,18 +47,18 @@ module _ {R : ℕ} {m left s : List ℕ} (l : MapLeft R m left s) (r : ℕ) (res
   unfolding mapFits
   slot-high h = record { tells = sym (rw (here.low, le-ltb r R h)); holds = λ q. absurd (false≢true q); words = l.words }
 
-  pub slot_twice : (s' : List ℕ) → length s' ≡ 4 → not (hasByte s r) ≡ false → Scanned R m false s'
+  pub slot-twice : (s' : List ℕ) → length s' ≡ 4 → not (hasByte s r) ≡ false → Scanned R m false s'
   unfolding mapFits
-  slot_twice s' words e = record {
+  slot-twice s' words e = record {
     tells = sym (rw (walk-seen _ _ here.walk e) (and-false (every (λ r. ltb r R) m)));
     holds = λ q. absurd (false≢true q);
     words = words;
   }
 
-  pub map_more : r < R → not (hasByte s r) ≡ true → r < 256 → (s' : List ℕ) → length s' ≡ 4 → s' ≡ withByte s r → MapLeft R m rest s'
-  map_more h e byte s' words q = record {
+  pub map-more : r < R → not (hasByte s r) ≡ true → r < 256 → (s' : List ℕ) → length s' ≡ 4 → s' ≡ withByte s r → MapLeft R m rest s'
+  map-more h e byte s' words q = record {
     low = here.low ∙ rw (lt-ltb r R h);
-    walk = rw q (walk_more _ _ here.walk e (omega (arith, l.words)));
+    walk = rw q (walk-more _ _ here.walk e (omega (arith, l.words)));
     words = words;
   }
 
@@ -78,7 +78,7 @@ module _ (v : Volume) (tb : Bytes) (k f : ℕ) (s : List ℕ) (n : ℕ) (q : n �
     unfolding holderTest
     holder-high h = rw (ne_eqb k 0 some, clients-are tb, ← q) (all-no _ 0 (lt-leb k n h))
 
-    pub holder-last : k ≤ n → (d : Bytes) → d ≡ bytes_at (decodeTable tb) v (recordPlace k)
+    pub holder-last : k ≤ n → (d : Bytes) → d ≡ bytesAt (decodeTable tb) v (recordPlace k)
         → (not (eqb (stateIn d) 0) && slotsApart f s (decodeRecord d).entries) ≡ holderTest (decodeTable tb) v k f s
     unfolding holderTest recordIn all
     holder-last h d at =
@@ -86,17 +86,17 @@ module _ (v : Volume) (tb : Bytes) (k f : ℕ) (s : List ℕ) (n : ℕ) (q : n �
         (rw (clients-are tb, ← q, le-leb k n h, state-in d) (ap (λ (b : Bool). not (eqb (stateIn d) 0) && b) (sym (and-true _))))
 
 holder-is : (t : Table) (v : Volume) (k f : ℕ) (s m : List ℕ) → Holds s m
-    → holderTest t v k f s ≡ (eqb k 0 || holderFits (recordIn t (bytes_at t v)) t f (record { holder = k; map = m }))
+    → holderTest t v k f s ≡ (eqb k 0 || holderFits (recordIn t (bytesAt t v)) t f (record { holder = k; map = m }))
 unfolding holderTest
 holder-is t v k f s m hs =
-    let r : Record = recordIn t (bytes_at t v) k in
+    let r : Record = recordIn t (bytesAt t v) k in
     let has-is : hasByte s ≡ (λ (y : ℕ). member y m) = λ i y. hs y i in
     ap (λ (has : ℕ → Bool). eqb k 0 || all (leb k t.clients ∷ not (isIdle r) ∷ every (λ e. not (forFile f e && has e.slot)) r.entries ∷ [])) has-is
 
 -- ------------------------------------------------------------------ the whole header, as `header_is_sound` tests it
 -- d is the sector of file f's header.
 module _ (v : Volume) (tb : Bytes) (f : ℕ) (lo : 1 ≤ f) (hi : f ≤ fileCountIn tb) (d : Bytes)
-    (at : d ≡ bytes_at (decodeTable tb) v (headerPlace f)) where
+    (at : d ≡ bytesAt (decodeTable tb) v (headerPlace f)) where
   abbrev t : Table
   t = decodeTable tb
 
@@ -107,7 +107,7 @@ module _ (v : Volume) (tb : Bytes) (f : ℕ) (lo : 1 ≤ f) (hi : f ≤ fileCoun
   h = decodeHeader x d
 
   abbrev recs : ℕ → Record
-  recs = recordIn t (bytes_at t v)
+  recs = recordIn t (bytesAt t v)
 
   sound-is : headerSound t v f ≡ (isHeaderEncoding x d && headerFits recs t f h)
   unfolding headerSound

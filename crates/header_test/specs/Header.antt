@@ -6,7 +6,7 @@ use Rattle.sector.specs.Entries.{forFile}
 use Rattle.sector.specs.Decoding.{decodeHeader}
 use Rattle.volume.specs.Places.{fileAt, headerPlace}
 use Rattle.volume.specs.Lawful.{headerFits}
-use Rattle.volume.specs.Volumes.{Volume, bytes_at, recordIn}
+use Rattle.volume.specs.Volumes.{Volume, bytesAt, recordIn}
 use Rattle.byteset.specs.Set.{hasByte, Holds}
 use Rattle.sector.specs.Encoded.{isHeaderEncoding}
 
@@ -37,12 +37,12 @@ unfoldable pub holderTest : Table → Volume → ℕ → ℕ → List ℕ → Bo
 holderTest t v k f s =
     eqb k 0
     || all (leb k t.clients
-    ∷ not (isIdle (recordIn t (bytes_at t v) k))
-    ∷ slotsApart f s (recordIn t (bytes_at t v) k).entries
+    ∷ not (isIdle (recordIn t (bytesAt t v) k))
+    ∷ slotsApart f s (recordIn t (bytesAt t v) k).entries
     ∷ [])
 
 -- What `sound` asks of file f's header.
 unfoldable pub headerSound : Table → Volume → ℕ → Bool
 headerSound t v f =
-    isHeaderEncoding (fileAt t f) (bytes_at t v (headerPlace f))
-    && headerFits (recordIn t (bytes_at t v)) t f (decodeHeader (fileAt t f) (bytes_at t v (headerPlace f)))
+    isHeaderEncoding (fileAt t f) (bytesAt t v (headerPlace f))
+    && headerFits (recordIn t (bytesAt t v)) t f (decodeHeader (fileAt t f) (bytesAt t v (headerPlace f)))

@@ -9,7 +9,7 @@ use Rattle.interface.specs.declared.Outcome.{Outcome}
 use Rattle.interface.specs.declared.QueryOutcome.{QueryOutcome}
 use Rattle.interface.specs.declared.CountOutcome.{CountOutcome}
 use Rattle.interface.specs.declared.FormatOutcome.{FormatOutcome}
-use Rattle.interface.specs.Answers.{noneReading, newSession, sessionOf, marksByte, done, crashed, refused, found, queryRefused, counted, countRefused, formatDone, formatRefused, refusalNumber, answer_of, queryAnswerOf, countAnswerOf, formatAnswerOf}
+use Rattle.interface.specs.Answers.{noneReading, newSession, sessionOf, marksByte, done, crashed, refused, found, queryRefused, counted, countRefused, formatDone, formatRefused, refusalNumber, answerOf, queryAnswerOf, countAnswerOf, formatAnswerOf}
 
 -- ------------------------------------------------------------------ sessions: newSession, sessionOf, marksByte, markWorth
 -- A session of these marks, without reading holds: other crates' examples use it too.
@@ -21,9 +21,9 @@ new-session : newSession ≡ marks false false false false
 new-session = refl
 
 -- Bits 0 to 3 are clients 1 to 4, each by itself.
-one_bit : map (λ b. sessionOf b noneReading) (1 ∷ 2 ∷ 4 ∷ 8 ∷ [])
+one-bit : map (λ b. sessionOf b noneReading) (1 ∷ 2 ∷ 4 ∷ 8 ∷ [])
     ≡ marks true false false false ∷ marks false true false false ∷ marks false false true false ∷ marks false false false true ∷ []
-one_bit = refl
+one-bit = refl
 
 -- No bit, every bit, and bits above the fourth, which mark nobody.
 other-bits : map (λ b. sessionOf b noneReading) (0 ∷ 15 ∷ 0xF0 ∷ 0xFA ∷ [])
@@ -48,7 +48,7 @@ bytes-of-sessions = refl
 too-few-marks : marksByte (record { active = []; reading = [] }) ≡ 0
 too-few-marks = refl
 
--- ------------------------------------------------------------------ answers: refusalNumber, answer_of, queryAnswerOf, countAnswerOf, formatAnswerOf
+-- ------------------------------------------------------------------ answers: refusalNumber, answerOf, queryAnswerOf, countAnswerOf, formatAnswerOf
 -- The table under Refusals, downwards, and 16.
 refusal-numbers : map refusalNumber
     (NotSound ∷ BadSession ∷ NoClient ∷ AlreadyActive ∷ NotActive ∷ NoFile ∷ FileInUse ∷ NotHeld ∷ NoPage ∷ BadPageLength
@@ -58,7 +58,7 @@ refusal-numbers : map refusalNumber
 refusal-numbers = refl
 
 -- "answers cut with the number of stores made .. Otherwise it answers done with that number"; a refusal by its number.
-answers : map answer_of (Outcome.Done 4 ∷ Outcome.Crashed 3 ∷ Outcome.Refused NoFreeSlot ∷ []) ≡ done 4 ∷ crashed 3 ∷ refused 11 ∷ []
+answers : map answerOf (Outcome.Done 4 ∷ Outcome.Crashed 3 ∷ Outcome.Refused NoFreeSlot ∷ []) ≡ done 4 ∷ crashed 3 ∷ refused 11 ∷ []
 answers = refl
 
 -- Read "answers the sector number".

@@ -30,13 +30,13 @@ four-back true false true true w = refl
 four-back false true true true w = refl
 four-back true true true true w = refl
 
-list_back : (l : List Bool) (w : List ℕ) → length l ≡ 4 → sessionOf (marksByte (marked l w)) w ≡ marked l w
-list_back [] w e = absurd (omega arith)
-list_back (a ∷ []) w e = absurd (omega arith)
-list_back (a ∷ b ∷ []) w e = absurd (omega arith)
-list_back (a ∷ b ∷ c ∷ []) w e = absurd (omega arith)
-list_back (a ∷ b ∷ c ∷ d ∷ []) w e = four-back a b c d w
-list_back (a ∷ b ∷ c ∷ d ∷ x ∷ l) w e = absurd (omega arith)
+list-back : (l : List Bool) (w : List ℕ) → length l ≡ 4 → sessionOf (marksByte (marked l w)) w ≡ marked l w
+list-back [] w e = absurd (omega arith)
+list-back (a ∷ []) w e = absurd (omega arith)
+list-back (a ∷ b ∷ []) w e = absurd (omega arith)
+list-back (a ∷ b ∷ c ∷ []) w e = absurd (omega arith)
+list-back (a ∷ b ∷ c ∷ d ∷ []) w e = four-back a b c d w
+list-back (a ∷ b ∷ c ∷ d ∷ x ∷ l) w e = absurd (omega arith)
 
 pub session-back : (s : Session) → length s.active ≡ 4 → sessionOf (marksByte s) s.reading ≡ s
-session-back s e = list_back s.active s.reading e
+session-back s e = list-back s.active s.reading e

@@ -71,10 +71,10 @@ refusalNumber TooFewSectors = 15
 refusalNumber ReadOnly = 16
 
 -- Each case of an outcome, as the paper has it.
-abbrev pub answer_of : Outcome → Answer
-answer_of (Outcome.Done n) = done n
-answer_of (Outcome.Crashed n) = crashed n
-answer_of (Outcome.Refused r) = refused (refusalNumber r)
+abbrev pub answerOf : Outcome → Answer
+answerOf (Outcome.Done n) = done n
+answerOf (Outcome.Crashed n) = crashed n
+answerOf (Outcome.Refused r) = refused (refusalNumber r)
 
 -- Each case of a question's outcome.
 abbrev pub queryAnswerOf : QueryOutcome → QueryAnswer

@@ -1,4 +1,5 @@
 // Lists the volume on standard input: a line for each client and one for each file, or `too long`, or `not sound`.
+#![tactic(auto)]
 
 fn main() {
     // One byte more than the longest volume that is listed.

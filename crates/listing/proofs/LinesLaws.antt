@@ -11,7 +11,7 @@ use Rattle.lists.specs.Lists.{from}
 use Rattle.sector.specs.Contents.{Bytes}
 use Rattle.volume.specs.Listing.{decimal, stateWord, clientText, sectorsText, pagesText, clientLine, fileLine, lines}
 use Rattle.text.specs.Writes.{Wrote}
-use Rattle.text.proofs.WritesLaws.{wrote_none, wrote-more}
+use Rattle.text.proofs.WritesLaws.{wrote-none, wrote-more}
 
 -- ------------------------------------------------------------------ one line
 pub client-length : (k state count : ℕ)
@@ -47,8 +47,8 @@ pub record Writing (line : ℕ → Bytes) (n : ℕ) (b : Bytes) (start k : ℕ) 
   pub room : at + length (lines line (from k (n + 1 - k))) ≤ length b
   pub rest : (w : Bytes) (m : ℕ) → Wrote c at (lines line (from k (n + 1 - k))) w m → Wrote b start (lines line (from 1 n)) w m
 
-lines_from : (line : ℕ → Bytes) (n k : ℕ) → k ≤ n → lines line (from k (n + 1 - k)) ≡ line k ++ lines line (from (k + 1) (n + 1 - (k + 1)))
-lines_from line n k h =
+lines-from : (line : ℕ → Bytes) (n k : ℕ) → k ≤ n → lines line (from k (n + 1 - k)) ≡ line k ++ lines line (from (k + 1) (n + 1 - (k + 1)))
+lines-from line n k h =
     let m : n + 1 - k ≡ suc (n + 1 - (k + 1)) = omega arith in
     rw (m, add-one k)
 
@@ -60,7 +60,7 @@ writing-starts line n b start room =
 
 module _ {line : ℕ → Bytes} {n : ℕ} {b c : Bytes} {start k at : ℕ} (now : Writing line n b start k c at) where
   next-room : k ≤ n → at + (length (line k) + length (lines line (from (k + 1) (n + 1 - (k + 1))))) ≤ length b
-  next-room h = rw (lines_from line n k h, length-append (line k) (lines line (from (k + 1) (n + 1 - (k + 1))))) at now.room
+  next-room h = rw (lines-from line n k h, length-append (line k) (lines line (from (k + 1) (n + 1 - (k + 1))))) at now.room
 
   pub writing-room : k ≤ n → at + length (line k) ≤ length c
   writing-room h = omega (arith, next-room h, now.size)
@@ -71,10 +71,10 @@ module _ {line : ℕ → Bytes} {n : ℕ} {b c : Bytes} {start k at : ℕ} (now 
     high = omega arith;
     size = rw one.bytes (length-sets c at (line k)) ∙ now.size;
     room = omega (arith, one.next, next-room h);
-    rest = λ w m x. now.rest w m (rw (lines_from line n k h) (wrote-more one x));
+    rest = λ w m x. now.rest w m (rw (lines-from line n k h) (wrote-more one x));
   }
 
   pub writing-ends : n < k → Wrote b start (lines line (from 1 n)) c at
   writing-ends h =
       let m : n + 1 - k ≡ 0 = omega arith in
-      now.rest c at (rw m (wrote_none c at))
+      now.rest c at (rw m (wrote-none c at))

@@ -61,15 +61,15 @@ module _ (v : Volume) (ok : sound v ≡ true) where
       let few : f < 100 = omega (arith, facts.table.files.1) in
       omega (arith, file-length f n x.pages x.slots, below-100 f few, one-digit n (omega (arith, holder-four facts f i)), any-number x.pages, any-number x.slots)
 
-  pub lines_fit : length (clientLines (view v)) + length (fileLines (view v)) ≤ 664
-  lines_fit =
+  pub lines-fit : length (clientLines (view v)) + length (fileLines (view v)) ≤ 664
+  lines-fit =
       let clients = lines-length (clientLineOf (view v)) 18 (view v).table.clients 1 client-18 in
       let files = lines-length (fileLineOf (view v)) 37 (length (view v).table.files) 1 file-37 in
       omega (arith, facts.table.four, facts.table.files.1)
 
   pub listing-fits : length (listing (view v)) ≤ 664
   unfolding listing
-  listing-fits = omega (arith, length-append (clientLines (view v)) (fileLines (view v)), lines_fit)
+  listing-fits = omega (arith, length-append (clientLines (view v)) (fileLines (view v)), lines-fit)
 
 -- ------------------------------------------------------------------ what is written
 -- The lines of the clients and those of the files behind them are the listing.

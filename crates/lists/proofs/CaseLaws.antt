@@ -13,8 +13,8 @@ by-test true p q = p refl
 by-test false p q = q refl
 
 -- Either the two numbers are equal, or they aren't.
-pub by_equal : {X : Type 0} (i j : ℕ) → (i ≡ j → X) → (i ≢ j → X) → X
-by_equal i j p q = by-test (eqb i j) (λ e. p (eqb-true i j e)) (λ e. q (eqb-false i j e))
+pub by-equal : {X : Type 0} (i j : ℕ) → (i ≡ j → X) → (i ≢ j → X) → X
+by-equal i j p q = by-test (eqb i j) (λ e. p (eqb-true i j e)) (λ e. q (eqb-false i j e))
 
 -- The claim about what a test chooses.
 pub if-test : {A : Type 0} (P : A → Type 0) (b : Bool) (x y : A) → (b ≡ true → P x) → (b ≡ false → P y) → P (if b then x else y)
@@ -31,10 +31,10 @@ in-if true x y z h = h refl
 in-if false x y z h = refl
 
 pub eqb-sym : (i j : ℕ) → eqb i j ≡ eqb j i
-eqb-sym i j = by_equal i j (λ e. eq-eqb i j e ∙ sym (eq-eqb j i (sym e))) (λ n. ne_eqb i j n ∙ sym (ne_eqb j i (λ e. n (sym e))))
+eqb-sym i j = by-equal i j (λ e. eq-eqb i j e ∙ sym (eq-eqb j i (sym e))) (λ n. ne_eqb i j n ∙ sym (ne_eqb j i (λ e. n (sym e))))
 
 -- Of three tests one of which holds, the second may come first.
-pub or_turn : (a b c : Bool) → ((a || b) || c) ≡ (b || (a || c))
-or_turn true true c = refl
-or_turn true false c = refl
-or_turn false b c = refl
+pub or-turn : (a b c : Bool) → ((a || b) || c) ≡ (b || (a || c))
+or-turn true true c = refl
+or-turn true false c = refl
+or-turn false b c = refl

@@ -13,8 +13,8 @@ use lib.Dec.{eqb, ltb}
 use lib.ListN.{length, get_or, drop, drop_of_length-le}
 use lib.Seq.{drop-cons}
 use Rattle.lists.specs.Lists.{all, every, any, from}
-use Rattle.lists.proofs.ListLaws.{and_left, and_right, and_both, all_nil, all_cons}
-use Rattle.lists.proofs.CaseLaws.{or_turn}
+use Rattle.lists.proofs.ListLaws.{and-left, and-right, and-both, all-nil, all-cons}
+use Rattle.lists.proofs.CaseLaws.{or-turn}
 
 -- Tests that hold together are equal.
 pub iff : (a b : Bool) → (a ≡ true → b ≡ true) → (b ≡ true → a ≡ true) → a ≡ b
@@ -46,14 +46,14 @@ or-zero a b = iff _ _ to back
     to : eqb (bit_or a b) 0 ≡ true → (eqb a 0 && eqb b 0) ≡ true
     to e =
         let z : bit_or a b ≡ 0 = eqb-true _ _ e in
-        and_both _ _
+        and-both _ _
         (eq-eqb a 0 (omega (arith, or_add_and a b, and_le_l a b, and_le_r a b)))
         (eq-eqb b 0 (omega (arith, or_add_and a b, and_le_l a b, and_le_r a b)))
 
     back : (eqb a 0 && eqb b 0) ≡ true → eqb (bit_or a b) 0 ≡ true
     back e =
-        let za : a ≡ 0 = eqb-true a 0 (and_left (eqb a 0) _ e) in
-        let zb : b ≡ 0 = eqb-true b 0 (and_right (eqb a 0) _ e) in
+        let za : a ≡ 0 = eqb-true a 0 (and-left (eqb a 0) _ e) in
+        let zb : b ≡ 0 = eqb-true b 0 (and-right (eqb a 0) _ e) in
         rw (za, zb)
 
 -- A sum is zero only where both numbers are; the second may be multiplied by n.
@@ -78,9 +78,9 @@ pub data Each : List Bool → Type 0 where
   none : Each []
   ◌also◌ : {b : Bool} {bs : List Bool} → b ≡ true → Each bs → Each (b ∷ bs)
 
-pub all_of : {bs : List Bool} → Each bs → all bs ≡ true
-all_of none = all_nil
-all_of (◌also◌ {bs = bs} p h) = all_cons bs p (all_of h)
+pub all-of : {bs : List Bool} → Each bs → all bs ≡ true
+all-of none = all-nil
+all-of (◌also◌ {bs = bs} p h) = all-cons bs p (all-of h)
 
 -- Each test before the last one holds: `p then q then final`.
 infixr 1 ◌then◌
@@ -103,30 +103,30 @@ pub drop-next : {A : Type 0} (xs : List A) (i : ℕ) (z : A) → i < length xs �
 drop-next xs i z h = rw (add-one i) (drop-cons xs i z h)
 
 -- The same where the length and the element are known by other names, and the end.
-pub next_of : {A : Type 0} (xs : List A) (n i : ℕ) (z x : A) → length xs ≡ n → i < n → get_or xs i z ≡ x → drop i xs ≡ x ∷ drop (i + 1) xs
-next_of {A} xs n i z x len h e = drop-next xs i z (rw len h) ∙ ap (λ (y : A). y ∷ drop (i + 1) xs) e
+pub next-of : {A : Type 0} (xs : List A) (n i : ℕ) (z x : A) → length xs ≡ n → i < n → get_or xs i z ≡ x → drop i xs ≡ x ∷ drop (i + 1) xs
+next-of {A} xs n i z x len h e = drop-next xs i z (rw len h) ∙ ap (λ (y : A). y ∷ drop (i + 1) xs) e
 
-pub none_of : {A : Type 0} (xs : List A) (n i : ℕ) → length xs ≡ n → n ≤ i → drop i xs ≡ []
-none_of xs n i len h = drop_of_length-le xs {i = i} (rw len h)
+pub none-of : {A : Type 0} (xs : List A) (n i : ℕ) → length xs ≡ n → n ≤ i → drop i xs ≡ []
+none-of xs n i len h = drop_of_length-le xs {i = i} (rw len h)
 
 module _ {A : Type 0} (xs : List A) (i : ℕ) (x : A) (next : drop i xs ≡ x ∷ drop (i + 1) xs) (w : Bool) where
-  pub every_more : (t : A → Bool) → t x ≡ true → w ≡ every t (drop i xs) → w ≡ every t (drop (i + 1) xs)
-  every_more t e q = q ∙ rw (next, e)
+  pub every-more : (t : A → Bool) → t x ≡ true → w ≡ every t (drop i xs) → w ≡ every t (drop (i + 1) xs)
+  every-more t e q = q ∙ rw (next, e)
 
   pub every-fails : (t : A → Bool) → t x ≡ false → w ≡ every t (drop i xs) → w ≡ false
   every-fails t e q = q ∙ rw (next, e)
 
   -- A set is filled: a turn takes what the test says of x, and b is what is taken then.
-  pub taken_more : (t : A → Bool) (a b : Bool) → (a || any t (drop i xs)) ≡ w → b ≡ (t x || a) → (b || any t (drop (i + 1) xs)) ≡ w
-  taken_more t a b q e = rw e (or_turn (t x) a (any t (drop (i + 1) xs))) ∙ sym (ap (λ (l : List A). a || any t l) next) ∙ q
+  pub taken-more : (t : A → Bool) (a b : Bool) → (a || any t (drop i xs)) ≡ w → b ≡ (t x || a) → (b || any t (drop (i + 1) xs)) ≡ w
+  taken-more t a b q e = rw e (or-turn (t x) a (any t (drop (i + 1) xs))) ∙ sym (ap (λ (l : List A). a || any t l) next) ∙ q
 
 pub taken-done : {A : Type 0} (xs : List A) (i : ℕ) → drop i xs ≡ [] → (t : A → Bool) (w a : Bool) → (a || any t (drop i xs)) ≡ w → a ≡ w
 taken-done {A} xs i end t w a q = sym (or-false a) ∙ sym (ap (λ (l : List A). a || any t l) end) ∙ q
 
 -- ------------------------------------------------------------------ a loop over the numbers from i on, below n
 module _ (t : ℕ → Bool) (w : Bool) (n i : ℕ) (q : w ≡ every t (from i (n - i))) where
-  pub numbers_more : i < n → t i ≡ true → w ≡ every t (from (i + 1) (n - (i + 1)))
-  numbers_more h e = let m : n - i ≡ suc (n - (i + 1)) = omega arith in q ∙ rw (m, e, add-one i)
+  pub numbers-more : i < n → t i ≡ true → w ≡ every t (from (i + 1) (n - (i + 1)))
+  numbers-more h e = let m : n - i ≡ suc (n - (i + 1)) = omega arith in q ∙ rw (m, e, add-one i)
 
   pub numbers-fail : i < n → t i ≡ false → w ≡ false
   numbers-fail h e = let m : n - i ≡ suc (n - (i + 1)) = omega arith in q ∙ rw (m, e)

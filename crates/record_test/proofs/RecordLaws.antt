@@ -15,9 +15,9 @@ use lib.ListN.{length, replicate, length-set}
 use Rattle.lists.specs.Lists.{all, every, any, distinct}
 use Rattle.sector.specs.Contents.{Bytes, Table, Entry}
 use Rattle.sector.specs.Decoding.{fileCountIn, headerSectorIn, fileIn, stateIn, countIn, decodeTable, decodeRecord}
-use Rattle.lists.proofs.ListLaws.{and_left, and_right, all-at, between-true}
+use Rattle.lists.proofs.ListLaws.{and-left, and-right, all-at, between-true}
 use Rattle.lists.proofs.CaseLaws.{by-test}
-use Rattle.lists.proofs.TestLaws.{all-no, all_of, none, ◌also◌}
+use Rattle.lists.proofs.TestLaws.{all-no, all-of, none, ◌also◌}
 use Rattle.sector.proofs.CodecLaws.{decoded-files, decoded-count}
 use Rattle.volume.specs.Places.{fileAt, headerSector}
 use Rattle.volume.specs.Lawful.{entryFits, pagesDiffer, slotsDiffer}
@@ -30,7 +30,7 @@ use Rattle.table_test.specs.Table.{tableSound}
 use Rattle.record_test.specs.Record.{stateFits, entriesFit, sectorFor, pageSector, slotSector, InRange, recordSound}
 use Rattle.sector.proofs.EncodedLaws.{record-few}
 use Rattle.table_test.proofs.DecodingLaws.{file-is, no-entry}
-use Rattle.byteset.proofs.WalkLaws.{Walk, walk_none, walk-seen, walk_more, walk-done}
+use Rattle.byteset.proofs.WalkLaws.{Walk, walk-none, walk-seen, walk-more, walk-done}
 use Rattle.table_test.proofs.TableLaws.{facts, is-table, header-in}
 
 -- ------------------------------------------------------------------ the whole record
@@ -51,11 +51,11 @@ state-in d = refl
 module _ (t : Table) (d : Bytes) where
   pub sound-count : recordSound t d ≡ true → countIn d ≤ 62
   unfolding recordSound
-  sound-count e = rw (decoded-count d) at (leb-true (length (decodeRecord d).entries) 62 (all-at _ 1 (and_right (isRecordEncoding d) _ e)))
+  sound-count e = rw (decoded-count d) at (leb-true (length (decodeRecord d).entries) 62 (all-at _ 1 (and-right (isRecordEncoding d) _ e)))
 
-  pub no_record : isRecordEncoding d ≡ false → recordSound t d ≡ false
+  pub no-record : isRecordEncoding d ≡ false → recordSound t d ≡ false
   unfolding recordSound
-  no_record e = rw e
+  no-record e = rw e
 
   pub record-last : length d ≡ 256 → isRecordEncoding d ≡ true
       → (stateFits (stateIn d) (countIn d) && entriesFit t (decodeRecord d).entries) ≡ recordSound t d
@@ -86,13 +86,13 @@ module _ (tb : Bytes) (e : Entry) (f n : ℕ) (qf : f ≡ e.file) (qn : n ≡ fi
 -- Numbers are the same just where the elements are alike, of those that pass the test.
 module _ {A : Type 0} (like : A → A → Bool) (g : A → ℕ) (q : A → Bool)
     (agree : (x y : A) → q x ≡ true → q y ≡ true → eqb (g x) (g y) ≡ like x y) where
-  any_same : (x : A) → q x ≡ true → (xs : List A) → every q xs ≡ true → any (eqb (g x)) (map g xs) ≡ any (like x) xs
-  any_same x h [] e = refl
-  any_same x h (y ∷ ys) e = rw (agree x y h (and_left (q y) _ e), any_same x h ys (and_right (q y) _ e))
+  any-same : (x : A) → q x ≡ true → (xs : List A) → every q xs ≡ true → any (eqb (g x)) (map g xs) ≡ any (like x) xs
+  any-same x h [] e = refl
+  any-same x h (y ∷ ys) e = rw (agree x y h (and-left (q y) _ e), any-same x h ys (and-right (q y) _ e))
 
   distinct-same : (xs : List A) → every q xs ≡ true → distinct eqb (map g xs) ≡ distinct like xs
   distinct-same [] e = refl
-  distinct-same (x ∷ xs) e = rw (any_same x (and_left (q x) _ e) xs (and_right (q x) _ e), distinct-same xs (and_right (q x) _ e))
+  distinct-same (x ∷ xs) e = rw (any-same x (and-left (q x) _ e) xs (and-right (q x) _ e), distinct-same xs (and-right (q x) _ e))
 
 -- Of the entries es those before `left` are tested, and their sectors are in the sets.
 pub record Left (tb : Bytes) (es left : List Entry) (pages slots : List ℕ) : Type 0 where
@@ -105,8 +105,8 @@ pub record Left (tb : Bytes) (es left : List Entry) (pages slots : List ℕ) : T
 pub left-all : (tb : Bytes) (es : List Entry) → Left tb es es (replicate 16 0) (replicate 16 0)
 left-all tb es = record {
   fit = refl;
-  by-page = walk_none _ _ (has-zeros 16);
-  by-slot = walk_none _ _ (has-zeros 16);
+  by-page = walk-none _ _ (has-zeros 16);
+  by-slot = walk-none _ _ (has-zeros 16);
   page-words = refl;
   slot-words = refl;
 }
@@ -132,11 +132,11 @@ module _ (tb : Bytes) (ok : tableSound tb ≡ true) where
     page-low : e.page < (fileAt t e.file).slots
     page-low = omega (arith, ltb-true e.page (fileAt t e.file).pages (all-at _ 2 fit), (file-facts (facts tb ok) e.file is).room)
 
-    header_is : headerSectorIn tb (e.file - 1) ≡ headerSector t e.file
-    header_is = header-in tb (is-table tb ok) e.file is.low (rw (← decoded-files tb) is.high)
+    header-is : headerSectorIn tb (e.file - 1) ≡ headerSector t e.file
+    header-is = header-in tb (is-table tb ok) e.file is.low (rw (← decoded-files tb) is.high)
 
     inside : (n : ℕ) → n < (fileAt t e.file).slots → headerSectorIn tb (e.file - 1) + n < 1024
-    inside n h = omega (arith, header_is, file-ends t e.file is, (facts tb ok).ends, (facts tb ok).size)
+    inside n h = omega (arith, header-is, file-ends t e.file is, (facts tb ok).ends, (facts tb ok).size)
 
     pub placed : InRange tb e
     placed = record {
@@ -150,7 +150,7 @@ module _ (tb : Bytes) (ok : tableSound tb ≡ true) where
     same-sector : (e d : Entry) → entryFits t e ≡ true → entryFits t d ≡ true
         → eqb (sectorFor tb part e) (sectorFor tb part d) ≡ (eqb d.file e.file && eqb (part d) (part e))
     same-sector e d h k =
-        rw (header_is e h, header_is d k) (go (eqb d.file e.file) refl (eqb (part d) (part e)) refl)
+        rw (header-is e h, header-is d k) (go (eqb d.file e.file) refl (eqb (part d) (part e)) refl)
       where
         two : (e.file ≡ d.file → part e ≢ part d) → eqb (headerSector t e.file + part e) (headerSector t d.file + part d) ≡ false
         two ne = ne_eqb _ _ (files-apart t e.file d.file (part e) (part d) (is e h) (is d k) (omega (arith, low e h)) (omega (arith, low d k)) ne)
@@ -191,18 +191,18 @@ module _ (tb : Bytes) (ok : tableSound tb ≡ true) where
     pub left-more : entryFits t e ≡ true → new ≡ true → Left tb es rest (withByte pages (pageSector tb e)) (withByte slots (slotSector tb e))
     left-more p q = record {
       fit = here.fit ∙ rw p;
-      by-page = walk_more _ _ here.by-page (and_left (not (hasByte pages (pageSector tb e))) _ q)
+      by-page = walk-more _ _ here.by-page (and-left (not (hasByte pages (pageSector tb e))) _ q)
           (omega (arith, (placed e p).page, l.page-words));
-      by-slot = walk_more _ _ here.by-slot (and_right (not (hasByte pages (pageSector tb e))) _ q)
+      by-slot = walk-more _ _ here.by-slot (and-right (not (hasByte pages (pageSector tb e))) _ q)
           (omega (arith, (placed e p).slot, l.slot-words));
       page-words = length-with pages (pageSector tb e) ∙ l.page-words;
       slot-words = length-with slots (slotSector tb e) ∙ l.slot-words;
     }
 
   pub entries-done : {es : List Entry} {pages slots : List ℕ} → Left tb es [] pages slots → entriesFit t es ≡ true
-  entries-done {es} l = entries-are es ∙ all_of (l.fit also (walk-done l.by-page).0 also (walk-done l.by-slot).0 also none)
+  entries-done {es} l = entries-are es ∙ all-of (l.fit also (walk-done l.by-page).0 also (walk-done l.by-slot).0 also none)
 
 -- There is nothing to test.
-pub entries_none : (t : Table) (d : Bytes) → countIn d < 1 → entriesFit t (decodeRecord d).entries ≡ true
+pub entries-none : (t : Table) (d : Bytes) → countIn d < 1 → entriesFit t (decodeRecord d).entries ≡ true
 unfolding entriesFit all
-entries_none t d h = rw (no-entry d 0 (omega arith))
+entries-none t d h = rw (no-entry d 0 (omega arith))

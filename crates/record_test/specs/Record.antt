@@ -6,7 +6,7 @@ use Rattle.sector.specs.Contents.{Bytes, Table, Entry}
 use Rattle.sector.specs.Decoding.{headerSectorIn, decodeRecord}
 use Rattle.volume.specs.Places.{recordPlace}
 use Rattle.volume.specs.Lawful.{entryFits, pagesDiffer, slotsDiffer, recordFits}
-use Rattle.volume.specs.Volumes.{Volume, bytes_at}
+use Rattle.volume.specs.Volumes.{Volume, bytesAt}
 use Rattle.byteset.specs.Set.{hasByte, withByte}
 use Rattle.sector.specs.Encoded.{isRecordEncoding}
 
@@ -49,4 +49,4 @@ recordSound t d = isRecordEncoding d && recordFits t (decodeRecord d)
 
 -- What it asks of client k's record.
 abbrev pub recordSoundIn : Table → Volume → ℕ → Bool
-recordSoundIn t v k = recordSound t (bytes_at t v (recordPlace k))
+recordSoundIn t v k = recordSound t (bytesAt t v (recordPlace k))

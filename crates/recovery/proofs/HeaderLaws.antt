@@ -12,25 +12,25 @@ use Rattle.sector.specs.Encoding.{encodeHeader}
 use Rattle.sector.specs.Entries.{forFile, pagesBelow, filePagesBelow}
 use Rattle.sector.specs.Decoding.{countIn, decodeRecord}
 use Rattle.lists.proofs.ListLaws.{all-at}
-use Rattle.lists.proofs.CaseLaws.{by_equal}
+use Rattle.lists.proofs.CaseLaws.{by-equal}
 use Rattle.lists.proofs.SearchLaws.{or-true, every-implies}
 use Rattle.volume.specs.Places.{IsClient, IsFile, fileAt, recordPlace, headerPlace}
 use Rattle.volume.specs.Lawful.{entryFits}
-use Rattle.volume.specs.Volumes.{Volume, bytes_at, view}
+use Rattle.volume.specs.Volumes.{Volume, bytesAt, view}
 use Rattle.volume.specs.WellFormed.{WellFormed}
-use Rattle.volume.proofs.AccessLaws.{record_is}
+use Rattle.volume.proofs.AccessLaws.{record-is}
 use Rattle.volume.proofs.ReadLaws.{few-pages, few-entries, count-in}
 
 module _ (v : Volume) (formed : WellFormed v) where
-  pub header_read : (f : ℕ) → IsFile (view v).table f → (d : Bytes) → d ≡ bytes_at (view v).table v (headerPlace f)
+  pub header-read : (f : ℕ) → IsFile (view v).table f → (d : Bytes) → d ≡ bytesAt (view v).table v (headerPlace f)
       → d ≡ encodeHeader (fileAt (view v).table f) ((view v).headers f)
-  header_read f i d e = e ∙ formed.header-bytes f i.low i.high
+  header-read f i d e = e ∙ formed.header-bytes f i.low i.high
 
   module _ (k : ℕ) (client : IsClient (view v).table k) where
-    pub record-read : (d : Bytes) → d ≡ bytes_at (view v).table v (recordPlace k) → decodeRecord d ≡ (view v).records k
-    record-read d e = ap decodeRecord e ∙ sym (record_is v k client.low client.high)
+    pub record-read : (d : Bytes) → d ≡ bytesAt (view v).table v (recordPlace k) → decodeRecord d ≡ (view v).records k
+    record-read d e = ap decodeRecord e ∙ sym (record-is v k client.low client.high)
 
-    pub count-few : (d : Bytes) → d ≡ bytes_at (view v).table v (recordPlace k) → countIn d ≤ 62
+    pub count-few : (d : Bytes) → d ≡ bytesAt (view v).table v (recordPlace k) → countIn d ≤ 62
     count-few d e = rw (e, count-in v formed k client) (few-entries v formed k client)
 
     -- What holds of each entry that fits.
@@ -48,7 +48,7 @@ module _ (v : Volume) (formed : WellFormed v) where
 
     pub pages-inside : (f : ℕ) → IsFile (view v).table f → filePagesBelow f (length ((view v).headers f).map) ((view v).records k).entries ≡ true
     pages-inside f i = every-implies (entryFits (view v).table) (λ (e : Entry). not (forFile f e) || ltb e.page (length ((view v).headers f).map))
-        (λ e fits. by_equal e.file f
+        (λ e fits. by-equal e.file f
         (λ q. or-true (not (forFile f e)) _ (rw (formed.map-size f i.low i.high, ← q) (lt-ltb _ _ (page-fits e fits).0)))
         (λ n. rw (ne_eqb e.file f n))) ((view v).records k).entries
         (all-at _ 2 (formed.record-fits k client.low client.high))

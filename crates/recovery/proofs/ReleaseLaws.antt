@@ -12,7 +12,7 @@ use lib.ListN.{length}
 use Rattle.lists.specs.Lists.{if◌then◌else◌, filter, member, from}
 use Rattle.sector.specs.Contents.{Record, Header, idleRecord}
 use Rattle.sector.proofs.EditLaws.{redone-length}
-use Rattle.lists.proofs.ListLaws.{no_both}
+use Rattle.lists.proofs.ListLaws.{no-both}
 use Rattle.lists.proofs.CaseLaws.{if-test, if-equal}
 use Rattle.volume.specs.Places.{IsClient, IsFile}
 use Rattle.volume.specs.Views.{View, Update, setRecord, setHeader, changed, changedBy}
@@ -26,7 +26,7 @@ use Rattle.rules.specs.Recovery.{mapAfter, heldFiles, recovery}
 use Rattle.rules.proofs.RecoveryLaws.{held-member}
 use Rattle.stores.specs.declared.Run.{Run}
 use Rattle.stores.specs.Runs.{UpdatesMade, AllMade}
-use Rattle.stores.proofs.MadeLaws.{all-table, all_none, all_one, made-going, made-same, made_more}
+use Rattle.stores.proofs.MadeLaws.{all-table, all-none, all-one, made-going, made-same, made-more}
 use Rattle.recovery.specs.Work.{freed, releaseOf}
 
 -- ------------------------------------------------------------------ one file
@@ -48,22 +48,22 @@ module _ (redo : Bool) (a : View) (k : ℕ) where
   unfolding releaseOf
   release-records f b = if-test (λ (xs : List Update). (changedBy b xs).records ≡ b.records) (holds a k f) _ [] (λ e. refl) (λ e. refl)
 
-  pub release_other : (f g : ℕ) (b : View) → g ≢ f → (changedBy b (releaseOf redo a k f)).headers g ≡ b.headers g
+  pub release-other : (f g : ℕ) (b : View) → g ≢ f → (changedBy b (releaseOf redo a k f)).headers g ≡ b.headers g
   unfolding releaseOf
-  release_other f g b n = if-test (λ (xs : List Update). (changedBy b xs).headers g ≡ b.headers g) (holds a k f) _ []
+  release-other f g b n = if-test (λ (xs : List Update). (changedBy b xs).headers g ≡ b.headers g) (holds a k f) _ []
       (λ e. rw (ne_eqb g f n)) (λ e. refl)
 
   -- The updates of recovery for these files, and the idle record.
   abbrev pub rest : List ℕ → List Update
   rest fs = map (λ f. setHeader f (freed redo a k f)) (filter (holds a k) fs) ++ (setRecord k idleRecord ∷ [])
 
-  pub rest_all : recovery redo a k ≡ rest (from 1 (length a.table.files))
+  pub rest-all : recovery redo a k ≡ rest (from 1 (length a.table.files))
   unfolding recovery heldFiles
-  rest_all = refl
+  rest-all = refl
 
-  pub rest_more : (f : ℕ) (fs : List ℕ) → rest (f ∷ fs) ≡ releaseOf redo a k f ++ rest fs
+  pub rest-more : (f : ℕ) (fs : List ℕ) → rest (f ∷ fs) ≡ releaseOf redo a k f ++ rest fs
   unfolding releaseOf
-  rest_more f fs = go (holds a k f)
+  rest-more f fs = go (holds a k f)
     where
       go : (b : Bool) → map (λ f. setHeader f (freed redo a k f)) (if b then f ∷ filter (holds a k) fs else filter (holds a k) fs) ++ (setRecord k idleRecord ∷ [])
           ≡ (if b then setHeader f (freed redo a k f) ∷ [] else []) ++ rest fs
@@ -79,8 +79,8 @@ release-all : {v w : Volume} {r q : Run} (redo : Bool) (k f : ℕ) → WellForme
     → UpdatesMade v r (releaseOf redo (view v) k f) w q → q.crashed ≡ false → AllMade v (releaseOf redo (view v) k f) w
 unfolding releaseOf
 release-all {v} {w} {r} {q} redo k f formed i m c = if-test (λ (xs : List Update). UpdatesMade v r xs w q → AllMade v xs w) (holds (view v) k f) _ []
-    (λ e m. all_one _ formed (i, after-length redo (view v) k f ∙ formed.map-size f i.low i.high, omega (arith, few-pages v formed.tabled f i)) m c)
-    (λ e m. all_none formed m) m
+    (λ e m. all-one _ formed (i, after-length redo (view v) k f ∙ formed.map-size f i.low i.high, omega (arith, few-pages v formed.tabled f i)) m c)
+    (λ e m. all-none formed m) m
 
 -- ------------------------------------------------------------------ the loop
 -- What the run finds at file f if it hasn't crashed.
@@ -108,8 +108,8 @@ turn-start {v} {r} {redo} {k} formed =
     record {
       low = omega arith;
       high = omega arith;
-      left = λ m. rw (rest_all redo (view v) k) (rw e at m);
-      ahead = λ c. record { formed = formed; table = refl; own = refl; headers = λ g h. refl; seen = rw (rest_all redo (view v) k, e) };
+      left = λ m. rw (rest-all redo (view v) k) (rw e at m);
+      ahead = λ c. record { formed = formed; table = refl; own = refl; headers = λ g h. refl; seen = rw (rest-all redo (view v) k, e) };
     }
 
 module _ {v₀ : Volume} {r₀ : Run} {redo : Bool} {k : ℕ} {v : Volume} {r : Run} {f : ℕ} (client : IsClient (view v₀).table k)
@@ -136,13 +136,13 @@ module _ {v₀ : Volume} {r₀ : Run} {redo : Bool} {k : ℕ} {v : Volume} {r : 
         let n = length (view v₀).table.files in
         let e : n + 1 - f ≡ suc (n + 1 - (f + 1)) = omega arith in
         let s : suc f ≡ f + 1 = omega arith in
-        ap (λ (i : ℕ). rest redo (view v₀) k (from f i)) e ∙ rest_more redo (view v₀) k f (from (suc f) (n + 1 - (f + 1))) ∙ rw s
+        ap (λ (i : ℕ). rest redo (view v₀) k (from f i)) e ∙ rest-more redo (view v₀) k f (from (suc f) (n + 1 - (f + 1))) ∙ rw s
 
-    pub turn_more : Turn v₀ r₀ redo k w q (f + 1)
-    turn_more = record {
+    pub turn-more : Turn v₀ r₀ redo k w q (f + 1)
+    turn-more = record {
       low = omega arith;
       high = omega arith;
-      left = λ n. t.left (rw split (made_more (λ c. all-table _ (made c)) (made-same same m) n));
+      left = λ n. t.left (rw split (made-more (λ c. all-table _ (made c)) (made-same same m) n));
       ahead = λ c.
           let x = t.ahead (made-going m c) in
           let d = made c in
@@ -150,21 +150,21 @@ module _ {v₀ : Volume} {r₀ : Run} {redo : Bool} {k : ℕ} {v : Volume} {r : 
             formed = d.formed;
             table = all-table _ d ∙ x.table;
             own = ap (λ (b : View). b.records k) d.seen ∙ ap (λ (rs : ℕ → Record). rs k) (release-records redo (view v) k f (view v)) ∙ x.own;
-            headers = λ g l. ap (λ (b : View). b.headers g) d.seen ∙ release_other redo (view v) k f g (view v) (omega arith) ∙ x.headers g (omega arith);
+            headers = λ g l. ap (λ (b : View). b.headers g) d.seen ∙ release-other redo (view v) k f g (view v) (omega arith) ∙ x.headers g (omega arith);
             seen = ap (λ (b : View). changedBy b later) (d.seen ∙ ap (changedBy (view v)) (same (made-going m c)))
                 ∙ sym (changed-append (releaseOf redo (view v₀) k f) later (view v)) ∙ ap (changedBy (view v)) (sym split) ∙ x.seen;
           };
     }
 
   -- The record, after the last file.
-  pub turn_end : length (view v₀).table.files < f → {u : Volume} {q : Run} → UpdatesMade v r (setRecord k idleRecord ∷ []) u q
+  pub turn-end : length (view v₀).table.files < f → {u : Volume} {q : Run} → UpdatesMade v r (setRecord k idleRecord ∷ []) u q
       → UpdatesMade v₀ r₀ (recovery redo (view v₀) k) u q × (q.crashed ≡ false → AllMade v₀ (recovery redo (view v₀) k) u)
-  turn_end h m =
+  turn-end h m =
       let e : length (view v₀).table.files + 1 - f ≡ 0 = omega (arith, t.high) in (
         t.left (rw e m),
         λ c.
             let x = t.ahead (made-going m c) in
-            let d = all_one _ x.formed (rw x.table (client.low, client.high, idle-fits (view v).table)) m c in
+            let d = all-one _ x.formed (rw x.table (client.low, client.high, idle-fits (view v).table)) m c in
             record { formed = d.formed; seen = d.seen ∙ rw e at x.seen },
       )
 
@@ -179,4 +179,4 @@ headers-set h k r f (g ∷ gs) b start = headers-set h k r f gs (changed b (setH
 pub recovered-header : (redo : Bool) (a : View) (k f : ℕ) → IsFile a.table f → (a.headers f).holder ≡ k
     → (changedBy a (recovery redo a k)).headers f ≡ freed redo a k f
 unfolding recovery
-recovered-header redo a k f i e = headers-set (freed redo a k) k idleRecord f (heldFiles a k) a (λ out. no_both _ (held-member a k f i e) out)
+recovered-header redo a k f i e = headers-set (freed redo a k) k idleRecord f (heldFiles a k) a (λ out. no-both _ (held-member a k f i e) out)

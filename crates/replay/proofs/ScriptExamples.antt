@@ -18,9 +18,9 @@ use Rattle.atomicity.specs.Runs.{Step, calls, asks}
 use Rattle.atomicity.specs.AllOrNone.{PagesAgree}
 use Rattle.atomicity.specs.Transcripts.{ofCall, ofQuery, Event}
 use Rattle.commands.specs.declared.Action.{Action}
-use Rattle.commands.specs.Commands.{step_of}
-use Rattle.replay.specs.Scripts.{actionOf, commandIn, is_whole, stepIn, stepsFrom, steps}
-use Rattle.replay.specs.Transcripts.{headBytes, entry_of, transcript, eventIn, eventsIn}
+use Rattle.commands.specs.Commands.{stepOf}
+use Rattle.replay.specs.Scripts.{actionOf, commandIn, isWhole, stepIn, stepsFrom, steps}
+use Rattle.replay.specs.Transcripts.{headBytes, entryOf, transcript, eventIn, eventsIn}
 use Rattle.replay.specs.Replays.{ran, hasRoom, AllOrNoneFor, WhereRun}
 
 -- ------------------------------------------------------------------ scripts
@@ -55,7 +55,7 @@ itsSteps =
     ∷ []
 
 script-steps : steps script ≡ itsSteps
-unfolding stepsFrom stepIn commandIn step_of is_whole
+unfolding stepsFrom stepIn commandIn stepOf isWhole
 script-steps = refl
 
 -- 5 and every byte above 7 is a read.
@@ -64,21 +64,21 @@ reads = refl
 
 -- The length of the data, low byte first: a page is 256 bytes.
 page-step : steps (2 ∷ 0 ∷ 1 ∷ 1 ∷ 0 ∷ 255 ∷ 0 ∷ 1 ∷ replicate 256 0xA1) ≡ calls false (write 1 1 0 (replicate 256 0xA1)) 255 ∷ []
-unfolding stepsFrom stepIn commandIn step_of is_whole
+unfolding stepsFrom stepIn commandIn stepOf isWhole
 page-step = refl
 
 -- Data that the script doesn't have: no step.
-cut_step : steps (2 ∷ 0 ∷ 1 ∷ 1 ∷ 0 ∷ 255 ∷ 3 ∷ 0 ∷ 0xAA ∷ 0xBB ∷ []) ≡ []
-unfolding stepsFrom stepIn commandIn step_of is_whole
-cut_step = refl
+cut-step : steps (2 ∷ 0 ∷ 1 ∷ 1 ∷ 0 ∷ 255 ∷ 3 ∷ 0 ∷ 0xAA ∷ 0xBB ∷ []) ≡ []
+unfolding stepsFrom stepIn commandIn stepOf isWhole
+cut-step = refl
 
 -- Twelve bytes for each of the six calls, 524 for each question: 1,644 are enough, 1,643 are not.
 enough-room : hasRoom script 1644 ≡ true
-unfolding hasRoom stepsFrom stepIn commandIn step_of is_whole
+unfolding hasRoom stepsFrom stepIn commandIn stepOf isWhole
 enough-room = refl
 
 too-little-room : hasRoom script 1643 ≡ false
-unfolding hasRoom stepsFrom stepIn commandIn step_of is_whole
+unfolding hasRoom stepsFrom stepIn commandIn stepOf isWhole
 too-little-room = refl
 
 -- ------------------------------------------------------------------ transcripts
@@ -101,7 +101,7 @@ ofCalls =
     ∷ []
 
 calls-told : transcript ofCalls ≡ (0 ∷ 2 ∷ 0 ∷ nine) ++ ((1 ∷ 1 ∷ 0 ∷ newNine) ++ (2 ∷ 11 ∷ 0 ∷ nine))
-unfolding entry_of headBytes
+unfolding entryOf headBytes
 calls-told = refl
 
 -- A read of sector 300 that shows a page, and a refused one.
@@ -116,16 +116,16 @@ ofReads =
 
 reads-told : transcript ofReads
     ≡ (3 ∷ 44 ∷ 1 ∷ nine) ++ (page ++ (page ++ ((2 ∷ 8 ∷ 0 ∷ nine) ++ replicate 512 0)))
-unfolding entry_of headBytes padded
+unfolding entryOf headBytes padded
 reads-told = refl
 
 -- What is read back, with other bytes behind it; the two pages of a read may differ there.
 abbrev five : List Step
 five = calls false (begin 1) 9 ∷ calls false (begin 1) 9 ∷ calls false (begin 1) 9 ∷ asks false (readPage 1 2 3) ∷ asks false (readPage 1 2 3) ∷ []
 
-told_back : eventsIn five (transcript ofCalls ++ (transcript ofReads ++ (1 ∷ 2 ∷ 3 ∷ []))) ≡ ofCalls ++ ofReads
-unfolding entry_of headBytes padded eventIn
-told_back = refl
+told-back : eventsIn five (transcript ofCalls ++ (transcript ofReads ++ (1 ∷ 2 ∷ 3 ∷ []))) ≡ ofCalls ++ ofReads
+unfolding entryOf headBytes padded eventIn
+told-back = refl
 
 two-pages : eventsIn (asks false (readPage 1 2 3) ∷ []) ((3 ∷ 6 ∷ 0 ∷ newNine) ++ (page ++ replicate 256 0xB2))
     ≡ record { answer = ofQuery (found 6); session = newSession; bytes = page; part = replicate 256 0xB2 } ∷ []
@@ -153,9 +153,9 @@ abbrev zeros : Bytes
 zeros = replicate 256 0
 
 other-bytes : (t : Table) (v : Volume) → AllOrNoneFor t readScript v ((3 ∷ 4 ∷ 0 ∷ 1 ∷ replicate 8 0) ++ (page ++ zeros)) → ⊥
-unfolding stepsFrom stepIn commandIn step_of is_whole eventIn
+unfolding stepsFrom stepIn commandIn stepOf isWhole eventIn
 other-bytes t v h = let e : ◌≡◌ {A = ℕ} 0xA1 0 = ap (λ (l : Bytes). byte l 0) h.0.0 in omega arith
 
 other-part : (t : Table) (v : Volume) → AllOrNoneFor t readScript v ((3 ∷ 4 ∷ 0 ∷ 1 ∷ replicate 8 0) ++ (zeros ++ page)) → ⊥
-unfolding stepsFrom stepIn commandIn step_of is_whole eventIn
+unfolding stepsFrom stepIn commandIn stepOf isWhole eventIn
 other-part t v h = let e : ◌≡◌ {A = ℕ} 0xA1 0 = ap (λ (l : Bytes). byte l 0) h.0.1 in omega arith

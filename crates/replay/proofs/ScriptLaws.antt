@@ -12,46 +12,46 @@ use lib.Seq.{drop-drop, get_or-drop}
 use Rattle.lists.specs.Lists.{if◌then◌else◌}
 use Rattle.sector.specs.Contents.{Bytes}
 use Rattle.sector.specs.Sectors.{byte, word}
-use Rattle.lists.proofs.ListLaws.{and_left, and_right}
+use Rattle.lists.proofs.ListLaws.{and-left, and-right}
 use Rattle.atomicity.specs.Runs.{Step}
-use Rattle.commands.specs.Commands.{step_of}
-use Rattle.replay.specs.Scripts.{commandIn, stepSize, is_whole, stepIn, stepsFrom, steps}
+use Rattle.commands.specs.Commands.{stepOf}
+use Rattle.replay.specs.Scripts.{commandIn, stepSize, isWhole, stepIn, stepsFrom, steps}
 use Rattle.replay.specs.Walks.{stepLength}
 
 -- ------------------------------------------------------------------ whole steps
-pub short_none : (l : Bytes) → length l < 8 → is_whole l ≡ false
-unfolding is_whole
-short_none l h = rw (lt-leb 8 (length l) h)
+pub short-none : (l : Bytes) → length l < 8 → isWhole l ≡ false
+unfolding isWhole
+short-none l h = rw (lt-leb 8 (length l) h)
 
-pub cut-none : (l : Bytes) → 8 ≤ length l → length l < stepSize l → is_whole l ≡ false
-unfolding is_whole
+pub cut-none : (l : Bytes) → 8 ≤ length l → length l < stepSize l → isWhole l ≡ false
+unfolding isWhole
 cut-none l h g = rw (le-leb 8 (length l) h, lt-leb (stepSize l) (length l) g)
 
-pub fits_whole : (l : Bytes) → 8 ≤ length l → stepSize l ≤ length l → is_whole l ≡ true
-unfolding is_whole
-fits_whole l h g = rw (le-leb 8 (length l) h, le-leb (stepSize l) (length l) g)
+pub fits-whole : (l : Bytes) → 8 ≤ length l → stepSize l ≤ length l → isWhole l ≡ true
+unfolding isWhole
+fits-whole l h g = rw (le-leb 8 (length l) h, le-leb (stepSize l) (length l) g)
 
 -- The step of n bytes at the front is whole.
 pub record Whole (l : Bytes) (n : ℕ) : Type 0 where
-  pub isThere : is_whole l ≡ true
+  pub isThere : isWhole l ≡ true
   pub size : n ≡ stepSize l
   pub head : 8 ≤ length l
   pub inside : stepSize l ≤ length l
 
-whole-fits : (l : Bytes) → is_whole l ≡ true → Whole l (stepSize l)
-unfolding is_whole
+whole-fits : (l : Bytes) → isWhole l ≡ true → Whole l (stepSize l)
+unfolding isWhole
 whole-fits l e = record {
   isThere = e;
   size = refl;
-  head = leb-true 8 (length l) (and_left (leb 8 (length l)) _ e);
-  inside = leb-true (stepSize l) (length l) (and_right (leb 8 (length l)) _ e);
+  head = leb-true 8 (length l) (and-left (leb 8 (length l)) _ e);
+  inside = leb-true (stepSize l) (length l) (and-right (leb 8 (length l)) _ e);
 }
 
-pub no_step : (l : Bytes) (n : ℕ) → n ≡ stepLength l → n ≡ 0 → is_whole l ≡ false
+pub no-step : (l : Bytes) (n : ℕ) → n ≡ stepLength l → n ≡ 0 → isWhole l ≡ false
 unfolding stepLength
-no_step l n e z = go (is_whole l) refl
+no-step l n e z = go (isWhole l) refl
   where
-    go : (b : Bool) → is_whole l ≡ b → b ≡ false
+    go : (b : Bool) → isWhole l ≡ b → b ≡ false
     go false i = refl
     go true i = absurd (differ (sym z ∙ e ∙ rw i))
       where
@@ -60,9 +60,9 @@ no_step l n e z = go (is_whole l) refl
 
 pub whole-step : (l : Bytes) (n : ℕ) → n ≡ stepLength l → 0 < n → Whole l n
 unfolding stepLength
-whole-step l n e p = go (is_whole l) refl
+whole-step l n e p = go (isWhole l) refl
   where
-    go : (b : Bool) → is_whole l ≡ b → Whole l n
+    go : (b : Bool) → isWhole l ≡ b → Whole l n
     go true i = let s : n ≡ stepSize l = e ∙ rw i in rw s (whole-fits l i)
     go false i = let z : n ≡ 0 = e ∙ rw i in absurd (omega arith)
 
@@ -70,23 +70,23 @@ whole-step l n e p = go (is_whole l) refl
 enough : (n m : ℕ) (l : Bytes) → length l ≤ n → length l ≤ m → stepsFrom n l ≡ stepsFrom m l
 unfolding stepsFrom
 enough zero zero l h g = refl
-enough zero (suc m) l h g = rw (short_none l (omega arith))
-enough (suc n) zero l h g = rw (short_none l (omega arith))
+enough zero (suc m) l h g = rw (short-none l (omega arith))
+enough (suc n) zero l h g = rw (short-none l (omega arith))
 enough (suc n) (suc m) l h g =
-    ap (λ (xs : List Step). if is_whole l then stepIn l ∷ xs else [])
+    ap (λ (xs : List Step). if isWhole l then stepIn l ∷ xs else [])
     (enough n m (drop (stepSize l) l) (omega (arith, length-drop (stepSize l) l)) (omega (arith, length-drop (stepSize l) l)))
 
 -- One look more finds nothing more.
-one_more : (l : Bytes) → steps l ≡ (if is_whole l then stepIn l ∷ stepsFrom (length l) (drop (stepSize l) l) else [])
+one-more : (l : Bytes) → steps l ≡ (if isWhole l then stepIn l ∷ stepsFrom (length l) (drop (stepSize l) l) else [])
 unfolding stepsFrom
-one_more l = enough (length l) (suc (length l)) l (omega arith) (omega arith)
+one-more l = enough (length l) (suc (length l)) l (omega arith) (omega arith)
 
-pub steps-none : (l : Bytes) → is_whole l ≡ false → steps l ≡ []
-steps-none l e = one_more l ∙ rw e
+pub steps-none : (l : Bytes) → isWhole l ≡ false → steps l ≡ []
+steps-none l e = one-more l ∙ rw e
 
-pub steps-more : (l : Bytes) → is_whole l ≡ true → steps l ≡ stepIn l ∷ steps (drop (stepSize l) l)
+pub steps-more : (l : Bytes) → isWhole l ≡ true → steps l ≡ stepIn l ∷ steps (drop (stepSize l) l)
 steps-more l e =
-    one_more l
+    one-more l
     ∙ rw e (ap (◌∷◌ (stepIn l)) (enough (length l) (length (drop (stepSize l) l)) (drop (stepSize l) l) (omega (arith, length-drop (stepSize l) l)) (omega arith)))
 
 -- The same for the steps from `at` on.
@@ -96,12 +96,12 @@ steps-at l at n w =
     ∙ rw (drop-drop (stepSize (drop at l)) at l, ← w.size)
 
 -- ------------------------------------------------------------------ the bytes of a step
-pub byte_at : (l : Bytes) (at i : ℕ) → byte (drop at l) i ≡ byte l (at + i)
-byte_at l at i = get_or-drop at l i 0
+pub byte-at : (l : Bytes) (at i : ℕ) → byte (drop at l) i ≡ byte l (at + i)
+byte-at l at i = get_or-drop at l i 0
 
 -- The step is its command with its data.
 pub step-data : (l : Bytes) (at n : ℕ) → Whole (drop at l) n
-    → stepIn (drop at l) ≡ step_of (commandIn (drop at l)) (take (at + n - (at + 8)) (drop (at + 8) l))
+    → stepIn (drop at l) ≡ stepOf (commandIn (drop at l)) (take (at + n - (at + 8)) (drop (at + 8) l))
 unfolding stepIn
 step-data l at n w =
     let e : at + n - (at + 8) ≡ word (drop at l) 6 = omega (arith, w.size) in

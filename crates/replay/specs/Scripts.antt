@@ -7,7 +7,7 @@ use Rattle.sector.specs.Sectors.{byte, word}
 use Rattle.atomicity.specs.Runs.{Step}
 use Rattle.commands.specs.declared.Action.{Action}
 use Rattle.commands.specs.declared.Command.{Command}
-use Rattle.commands.specs.Commands.{step_of}
+use Rattle.commands.specs.Commands.{stepOf}
 
 -- 0 begin, 1 open, 2 write, 3 commit, 4 abort, 6 open for reading, 7 look; any other is a read.
 abbrev pub actionOf : ℕ → Action
@@ -38,17 +38,17 @@ abbrev pub stepSize : Bytes → ℕ
 stepSize l = 8 + word l 6
 
 -- A whole step stands at the front.
-unfoldable pub is_whole : Bytes → Bool
-is_whole l = leb 8 (length l) && leb (stepSize l) (length l)
+unfoldable pub isWhole : Bytes → Bool
+isWhole l = leb 8 (length l) && leb (stepSize l) (length l)
 
 -- That step.
 unfoldable pub stepIn : Bytes → Step
-stepIn l = step_of (commandIn l) (take (word l 6) (drop 8 l))
+stepIn l = stepOf (commandIn l) (take (word l 6) (drop 8 l))
 
 -- The steps at the front, n at most.
 unfoldable pub stepsFrom : ℕ → Bytes → List Step
 stepsFrom zero l = []
-stepsFrom (suc n) l = if is_whole l then stepIn l ∷ stepsFrom n (drop (stepSize l) l) else []
+stepsFrom (suc n) l = if isWhole l then stepIn l ∷ stepsFrom n (drop (stepSize l) l) else []
 
 -- All steps of a script. Bytes at its end that are no whole step say nothing.
 abbrev pub steps : Bytes → List Step

@@ -7,7 +7,7 @@ use Rattle.interface.specs.declared.Session.{Session}
 use Rattle.interface.specs.Answers.{sessionOf, marksByte, Answer, done, crashed, refused, QueryAnswer, found, queryRefused}
 use Rattle.lists.specs.Lists.{if◌then◌else◌}
 use Rattle.sector.specs.Contents.{Bytes}
-use Rattle.sector.specs.Sectors.{byte, word, word_bytes, padded}
+use Rattle.sector.specs.Sectors.{byte, word, wordBytes, padded}
 use Rattle.atomicity.specs.Runs.{Step, calls, asks}
 use Rattle.atomicity.specs.Transcripts.{StepAnswer, ofCall, ofQuery, Event}
 
@@ -15,11 +15,11 @@ use Rattle.atomicity.specs.Transcripts.{StepAnswer, ofCall, ofQuery, Event}
 abbrev pub sessionBytes : Session → Bytes
 sessionBytes s =
     let reading : ℕ → ℕ = λ i. get_or s.reading i 0 in
-    marksByte s ∷ word_bytes (reading 0) (word_bytes (reading 1) (word_bytes (reading 2) (word_bytes (reading 3) [])))
+    marksByte s ∷ wordBytes (reading 0) (wordBytes (reading 1) (wordBytes (reading 2) (wordBytes (reading 3) [])))
 
 -- The twelve bytes.
 unfoldable pub headBytes : (kind : ℕ) → (number : ℕ) → Session → Bytes
-headBytes kind number s = kind ∷ word_bytes number (sessionBytes s)
+headBytes kind number s = kind ∷ wordBytes number (sessionBytes s)
 
 -- An answer and the session.
 abbrev pub answerBytes : StepAnswer → Session → Bytes
@@ -35,13 +35,13 @@ pageBytes (ofCall x) bytes part = []
 pageBytes (ofQuery x) bytes part = padded bytes ++ padded part
 
 -- The entry of what a step said.
-unfoldable pub entry_of : Event → Bytes
-entry_of e = answerBytes e.answer e.session ++ pageBytes e.answer e.bytes e.part
+unfoldable pub entryOf : Event → Bytes
+entryOf e = answerBytes e.answer e.session ++ pageBytes e.answer e.bytes e.part
 
 -- The transcript of what the steps said.
 abbrev pub transcript : List Event → Bytes
 transcript [] = []
-transcript (e ∷ es) = entry_of e ++ transcript es
+transcript (e ∷ es) = entryOf e ++ transcript es
 
 -- The length of a step's entry.
 abbrev pub entryLength : Step → ℕ
@@ -55,8 +55,8 @@ transcriptLength (x ∷ xs) = entryLength x + transcriptLength xs
 
 -- ------------------------------------------------------------------ read back
 -- A call's answer, by its kind and number.
-abbrev pub answer_in : (kind : ℕ) → (number : ℕ) → Answer
-answer_in kind n = if eqb kind 0 then done n else if eqb kind 1 then crashed n else refused n
+abbrev pub answerIn : (kind : ℕ) → (number : ℕ) → Answer
+answerIn kind n = if eqb kind 0 then done n else if eqb kind 1 then crashed n else refused n
 
 -- A question's answer.
 abbrev pub queryAnswerIn : (kind : ℕ) → (number : ℕ) → QueryAnswer
@@ -74,7 +74,7 @@ sessionIn l = sessionOf (byte l 3) (word l 4 ∷ word l 6 ∷ word l 8 ∷ word 
 -- What the entry at the front says of its step.
 unfoldable pub eventIn : Step → Bytes → Event
 eventIn (calls crash c budget) l = record {
-  answer = ofCall (answer_in (byte l 0) (word l 1));
+  answer = ofCall (answerIn (byte l 0) (word l 1));
   session = sessionIn l;
   bytes = [];
   part = [];

@@ -1,11 +1,11 @@
 -- What the walk over a script and the notes in the transcript rest on, beside the definitions of both.
 use Rattle.std.specs.Prelude.{◌≡◌, [], ℕ}
 use Rattle.interface.specs.declared.Session.{Session}
-use Rattle.interface.specs.Answers.{answer_of, queryAnswerOf}
+use Rattle.interface.specs.Answers.{answerOf, queryAnswerOf}
 use Rattle.lists.specs.Lists.{if◌then◌else◌}
 use Rattle.sector.specs.Contents.{Bytes}
 use Rattle.volume.specs.Volumes.{Volume}
-use Rattle.rules.specs.Calls.{query, part_of, queryPart}
+use Rattle.rules.specs.Calls.{query, partOf, queryPart}
 use Rattle.text.specs.Writes.{Wrote}
 use Rattle.atomicity.specs.Runs.{Step, Configuration, given, stepped}
 use Rattle.atomicity.specs.Transcripts.{Event, ofCall, ofQuery, eventOf}
@@ -13,12 +13,12 @@ use Rattle.commands.specs.declared.Action.{Action}
 use Rattle.commands.specs.declared.Command.{Command}
 use Rattle.commands.specs.declared.Told.{Told}
 use Rattle.commands.specs.Commands.{queryOf}
-use Rattle.replay.specs.Scripts.{stepSize, is_whole}
-use Rattle.replay.specs.Transcripts.{entry_of}
+use Rattle.replay.specs.Scripts.{stepSize, isWhole}
+use Rattle.replay.specs.Transcripts.{entryOf}
 
 -- The length of the whole step at the front; 0 if there is none.
 unfoldable pub stepLength : Bytes → ℕ
-stepLength l = if is_whole l then stepSize l else 0
+stepLength l = if isWhole l then stepSize l else 0
 
 -- The length of the entry of a command that is this call.
 abbrev pub actionLength : Action → ℕ
@@ -33,11 +33,11 @@ actionLength Action.Look = 524
 
 -- What is noted of a command on volume v whose answer was this; s is the session before it, q the one last handed back after it.
 abbrev pub noted : Volume → (s : Session) → Command → Told → (q : Session) → Event
-noted v s c (Told.Call o) q = record { answer = ofCall (answer_of o); session = q; bytes = []; part = [] }
+noted v s c (Told.Call o) q = record { answer = ofCall (answerOf o); session = q; bytes = []; part = [] }
 noted v s c (Told.Query o) q = record {
   answer = ofQuery (queryAnswerOf o);
   session = q;
-  bytes = part_of v (queryAnswerOf o);
+  bytes = partOf v (queryAnswerOf o);
   part = queryPart v (given c.crash s) (queryOf c);
 }
 
@@ -50,4 +50,4 @@ IsAnswer v s c (Told.Query o) = queryAnswerOf o ≡ query v (given c.crash s) (q
 pub record IsStepped (r : Configuration) (x : Step) (w : Volume) (q : Session) (b : Bytes) (to : ℕ) (c : Bytes) (next : ℕ) : Type 0 where
   pub volume : w ≡ (stepped r x).volume
   pub session : q ≡ (stepped r x).session
-  pub entry : Wrote b to (entry_of (eventOf r x)) c next
+  pub entry : Wrote b to (entryOf (eventOf r x)) c next

@@ -1,6 +1,7 @@
 // Scripts of calls as bytes, run through the calls themselves, with a transcript of what every step said.
 // `format_and_replay` has all or none in its contract, as a claim about nothing but the script, the transcript and the
 // volume that is left.
+#![tactic(auto)]
 mod run;
 mod steps;
 mod transcript;
@@ -8,7 +9,7 @@ mod transcript;
 ghost use Rattle.std.specs.Prelude.{◌≡◌, length};
 ghost use Rattle.volume.specs.Format.{tableFor};
 ghost use Rattle.atomicity.specs.Model.{Model};
-ghost use Rattle.commands.specs.Commands.{run_of};
+ghost use Rattle.commands.specs.Commands.{runOf};
 ghost use Rattle.replay.specs.Replays.{replayAnswerOf, leftBy, replayed, formattedAndRun, AllOrNoneFor, WhereRun};
 
 use crate::run::run_steps;
@@ -48,7 +49,7 @@ fn hand_back(e: Ended, s: Session) -> Replayed
 // (`must-fail/last_step_left_out`), be it a read; a script run whose transcript doesn't fit
 // (`must-fail/room_for_calls_only`).
 pub fn replay(v: &mut [u8], s: Session, script: &[u8], out: &mut [u8]) -> Replayed
-    ensures { (m : Model) → leftBy result v.new out.new ≡ replayed (run_of v.old s m) script.now out.old }
+    ensures { (m : Model) → leftBy result v.new out.new ≡ replayed (runOf v.old s m) script.now out.old }
 {
     if !has_room(script, out.len()) {
         return hand_back(Ended::NoRoom, s);

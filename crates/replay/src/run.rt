@@ -1,7 +1,7 @@
 // The steps of a script performed one after the other, each noted in the transcript.
 ghost use Rattle.std.specs.Prelude.{◌≡◌, ◌+◌, ◌≤◌, ◌<◌, length, drop};
 ghost use Rattle.atomicity.specs.Model.{Model};
-ghost use Rattle.commands.specs.Commands.{run_of};
+ghost use Rattle.commands.specs.Commands.{runOf};
 ghost use Rattle.replay.specs.Scripts.{steps, stepIn};
 ghost use Rattle.replay.specs.Transcripts.{entryLength, transcriptLength};
 ghost use Rattle.replay.specs.Replays.{runLeft, ran};
@@ -30,7 +30,7 @@ fn step(
 ) -> Stepped
     requires { (n ≡ stepLength (drop at script.now)) × (0 < n) × (at + n ≤ length script.now)
         × (to + entryLength (stepIn (drop at script.now)) ≤ length out.old) }
-    ensures { (m : Model) → IsStepped (run_of v.old s m) (stepIn (drop at script.now))
+    ensures { (m : Model) → IsStepped (runOf v.old s m) (stepIn (drop at script.now))
         v.new result.session out.old to out.new result.next }
 {
     let c = command_at(script, at);
@@ -50,7 +50,7 @@ fn step(
 pub fn run_steps(v: &mut [u8], s: Session, script: &[u8], out: &mut [u8]) -> Session
     requires { transcriptLength (steps script.now) ≤ length out.old }
     ensures { (m : Model) → (record { answer = ran; session = result; volume = v.new; out = out.new })
-        ≡ runLeft (run_of v.old s m) script.now out.old }
+        ≡ runLeft (runOf v.old s m) script.now out.old }
 {
     let mut last = s;
     let mut to = 0;

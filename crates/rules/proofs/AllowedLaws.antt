@@ -13,8 +13,8 @@ use Rattle.interface.specs.declared.Session.{Session}
 use Rattle.lists.specs.Lists.{first, every}
 use Rattle.sector.specs.Contents.{Bytes, Entry}
 use Rattle.sector.specs.Entries.{forFile}
-use Rattle.lists.proofs.ListLaws.{and_left, and_right, and_both, or_right, or-none, no_both, all_nil, all_cons, all-at, every-from, every-all}
-use Rattle.lists.proofs.CaseLaws.{by-test, by_equal, if-test}
+use Rattle.lists.proofs.ListLaws.{and-left, and-right, and-both, or-right, or-none, no-both, all-nil, all-cons, all-at, every-from, every-all}
+use Rattle.lists.proofs.CaseLaws.{by-test, by-equal, if-test}
 use Rattle.lists.proofs.SearchLaws.{or-true, every-implies, first-none}
 use Rattle.volume.specs.Places.{isClient, isFile, fileAt}
 use Rattle.volume.specs.Views.{View}
@@ -24,8 +24,8 @@ use Rattle.volume.proofs.LawfulLaws.{RecordFacts, HeaderFacts, Lawful, lawful-fa
 use Rattle.rules.specs.Sessions.{holds, holdsEither, isActive, isReading, isReadByOther, markFits, holdFits, marksFit, clientHoldsFit, holdsFit, sessionFits}
 use Rattle.rules.specs.Recovery.{isDecided}
 use Rattle.rules.specs.Plans.{Call, begin, openFile, openRead, write, commit, abort, Query, readPage, lookPage, entryFor, slotFor, freeSlots, heldByOrphan}
-use Rattle.rules.specs.Refusals.{heldByOther, isNewPage, pageMissing, read_only, tests, queryTests}
-use Rattle.rules.proofs.ContentLaws.{map_below}
+use Rattle.rules.specs.Refusals.{heldByOther, isNewPage, pageMissing, readOnly, tests, queryTests}
+use Rattle.rules.proofs.ContentLaws.{map-below}
 
 -- ------------------------------------------------------------------ sessions
 -- Client j is marked.
@@ -55,7 +55,7 @@ running-foreign {a} {j} r f n t =
     every-implies (λ e. eqb (a.headers e.file).holder j) (λ e. not (forFile f e && t e))
     (λ e x.
     let held : (a.headers e.file).holder ≡ j = eqb-true _ _ x in
-    by_equal e.file f (λ y. absurd (n (rw y at held))) (λ y. rw (ne_eqb e.file f y)))
+    by-equal e.file f (λ y. absurd (n (rw y at held))) (λ y. rw (ne_eqb e.file f y)))
     (a.records j).entries r.mine
 
 -- ------------------------------------------------------------------ reading holds
@@ -84,13 +84,13 @@ unfolding sessionFits markFits clientHoldsFit holdFits
 ready a s l fits = record {
   laws = lawful-facts a l;
   runs = λ j w.
-      let e : markFits a j ≡ true = or_right (not (isActive s j)) (markFits a j)
-      (every-from (λ k. not (isActive s k) || markFits a k) 4 1 (and_left (marksFit a s) _ fits) j w.low (omega (arith, w.high))) (rw w.on) in
+      let e : markFits a j ≡ true = or-right (not (isActive s j)) (markFits a j)
+      (every-from (λ k. not (isActive s k) || markFits a k) 4 1 (and-left (marksFit a s) _ fits) j w.low (omega (arith, w.high))) (rw w.on) in
       record { client = leb-true _ _ (all-at _ 0 e); state = eqb-true _ _ (all-at _ 1 e); mine = all-at _ 2 e };
   reads = λ j f x.
-      let e : holdFits a s j f ≡ true = or_right (not (isReading s j f)) (holdFits a s j f)
+      let e : holdFits a s j f ≡ true = or-right (not (isReading s j f)) (holdFits a s j f)
       (every-from (λ g. not (isReading s j g) || holdFits a s j g) 16 1
-      (every-from (clientHoldsFit a s) 4 1 (and_right (marksFit a s) _ fits) j x.low (omega (arith, x.high))) f x.first (omega (arith, x.last)))
+      (every-from (clientHoldsFit a s) 4 1 (and-right (marksFit a s) _ fits) j x.low (omega (arith, x.high))) f x.first (omega (arith, x.last)))
       (rw x.on) in
       record { active = all-at _ 0 e; file = leb-true _ _ (all-at _ 1 e); free = eqb-true _ _ (all-at _ 2 e) };
 }
@@ -99,13 +99,13 @@ ready a s l fits = record {
 pub running-fits : (a : View) (s : Session) → ((j : ℕ) → Active s j → Running a j) → ((j f : ℕ) → Reader s j f → Shared a s j f)
     → sessionFits a s ≡ true
 unfolding sessionFits markFits clientHoldsFit holdFits
-running-fits a s runs reads = and_both (marksFit a s) (holdsFit a s)
+running-fits a s runs reads = and-both (marksFit a s) (holdsFit a s)
     (every-all _ 4 1
     (λ j lo hi. by-test (isActive s j)
     (λ on.
     let r : Running a j = runs j (record { low = lo; high = omega arith; on = on }) in
     or-true (not (isActive s j)) (markFits a j)
-    (all_cons _ (le-leb _ _ r.client) (all_cons _ (eq-eqb _ _ r.state) (all_cons _ r.mine all_nil))))
+    (all-cons _ (le-leb _ _ r.client) (all-cons _ (eq-eqb _ _ r.state) (all-cons _ r.mine all-nil))))
     (λ off. rw off)))
     (every-all _ 4 1
     (λ j lo hi. every-all _ 16 1
@@ -113,7 +113,7 @@ running-fits a s runs reads = and_both (marksFit a s) (holdsFit a s)
     (λ on.
     let r : Shared a s j f = reads j f (record { low = lo; high = omega arith; first = first; last = omega arith; on = on }) in
     or-true (not (isReading s j f)) (holdFits a s j f)
-    (all_cons _ r.active (all_cons _ (le-leb _ _ r.file) (all_cons _ (eq-eqb _ _ r.free) all_nil))))
+    (all-cons _ r.active (all-cons _ (le-leb _ _ r.file) (all-cons _ (eq-eqb _ _ r.free) all-nil))))
     (λ off. rw off))))
 
 -- ------------------------------------------------------------------ each call
@@ -182,20 +182,20 @@ read-holder {a} {s} {k} {f} w e = record {
   high = w.act.active.high;
   first = w.file.low;
   last = omega (arith, w.file.high, w.act.ready.laws.table.files.1);
-  on = or_right (holds a k f) (isReading s k f) w.hold e;
+  on = or-right (holds a k f) (isReading s k f) w.hold e;
 }
 
 -- The slot that a read finds is one of the file's: given by an entry that fits, or by the map.
 pub slot-below : {a : View} {s : Session} {k f p : ℕ} → MayRead a s k f p → (o : Option Entry) → entryFor a k f p ≡ o
     → slotFor a f p o < (fileAt a.table f).slots
-slot-below {f = f} {p = p} w none e = map_below (w.act.ready.laws.headers f w.file).map p w.page
+slot-below {f = f} {p = p} w none e = map-below (w.act.ready.laws.headers f w.file).map p w.page
 slot-below {f = f} {p = p} w (some x) e = (entry-facts (own-record w.act) f p x e).slot
 
 -- Where open isn't refused, a holder other than k is orphaned, unless there is none: one that is active is refused by 7, one
 -- whose record is idle by 1.
 pub holder-orphaned : (a : View) (s : Session) (k f : ℕ) → HeaderFacts a.table a.records f (a.headers f)
     → heldByOther a s k f ≡ false → (a.headers f).holder ≢ k → heldByOrphan a s f ≡ not (eqb (a.headers f).holder 0)
-holder-orphaned a s k f facts free n = by_equal (a.headers f).holder 0
+holder-orphaned a s k f facts free n = by-equal (a.headers f).holder 0
     (λ e. rw (eq-eqb _ 0 e))
     (λ z.
     let off : isActive s (a.headers f).holder ≡ false = rw (ne_eqb _ 0 z, ne_eqb _ k n) at free in
@@ -217,8 +217,8 @@ first-later : (xs : List (ℕ × Bool)) → every (λ x. leb 3 x.0) xs ≡ true 
 unfolding first
 first-later [] e = (omega arith, omega arith)
 first-later (x ∷ xs) e =
-    let three : 3 ≤ x.0 = leb-true _ _ (and_left (leb 3 x.0) _ e) in
-    if-test Later x.1 x.0 (first xs) (λ t. (omega arith, omega arith)) (λ t. first-later xs (and_right (leb 3 x.0) _ e))
+    let three : 3 ≤ x.0 = leb-true _ _ (and-left (leb 3 x.0) _ e) in
+    if-test Later x.1 x.0 (first xs) (λ t. (omega arith, omega arith)) (λ t. first-later xs (and-right (leb 3 x.0) _ e))
 
 -- The second test is 2.
 second-later : (fits : Bool) (xs : List (ℕ × Bool)) → every (λ x. leb 3 x.0) xs ≡ true → fits ≡ true → Later (first ((2, not fits) ∷ xs))
@@ -226,9 +226,9 @@ unfolding first
 second-later fits xs high e = rw e (first-later xs high)
 
 module _ {ok fits : Bool} {xs : List (ℕ × Bool)} (h : Ordered ok fits xs) where
-  pub passed_first : first xs ≡ 0 → ok ≡ true
+  pub passed-first : first xs ≡ 0 → ok ≡ true
   unfolding first
-  passed_first e = by-test ok (λ t. t) (λ n. absurd (omega (arith, rw (h.is, n) at e)))
+  passed-first e = by-test ok (λ t. t) (λ n. absurd (omega (arith, rw (h.is, n) at e)))
 
   pub passed-both : ok ≡ true → fits ≡ true → Later (first xs)
   unfolding first
@@ -277,11 +277,11 @@ module _ (ok : Bool) (a : View) (s : Session) (law : ok ≡ true → lawful a �
   }
 
   -- A file that is held, and not for reading only, is held for writing.
-  writing : (k f : ℕ) → not (holdsEither a s k f) ≡ false → (read_only a s k f).1 ≡ false → (a.headers f).holder ≡ k
+  writing : (k f : ℕ) → not (holdsEither a s k f) ≡ false → (readOnly a s k f).1 ≡ false → (a.headers f).holder ≡ k
   writing k f hold only = by-test (holds a k f) (λ e. eqb-true _ _ e)
       (λ e.
-      let read : isReading s k f ≡ true = or_right (holds a k f) (isReading s k f) (not-false _ hold) e in
-      no_both true refl (rw (read, e) at only))
+      let read : isReading s k f ≡ true = or-right (holds a k f) (isReading s k f) (not-false _ hold) e in
+      no-both true refl (rw (read, e) at only))
 
   -- A question that isn't refused.
   pub answerable : (q : Query) → first (queryTests ok a s q) ≡ 0 → Answerable a s q

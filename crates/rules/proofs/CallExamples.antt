@@ -15,8 +15,8 @@ use Rattle.sector.specs.Encoding.{fileBytes, encodeTable, entryBytes, encodeReco
 use Rattle.sector.specs.Decoding.{decodeFiles, decodeTable, decodeEntries, decodeRecord, decodeHeader}
 use Rattle.volume.specs.Places.{sectorAfter}
 use Rattle.volume.specs.Views.{View}
-use Rattle.volume.specs.Volumes.{Volume, table_of, recordIn, headerIn, view}
-use Rattle.volume.specs.Stores.{Store, cut_at, allStores}
+use Rattle.volume.specs.Volumes.{Volume, tableOf, recordIn, headerIn, view}
+use Rattle.volume.specs.Stores.{Store, cutAt, allStores}
 use Rattle.volume.specs.Lawful.{lawful}
 use Rattle.volume.specs.Sound.{encoded, canonical, sound}
 use Rattle.volume.specs.Format.{repeated, newFiles, newVolume}
@@ -24,7 +24,7 @@ use Rattle.rules.specs.Sessions.{isReading, markFits, clientHoldsFit, sessionFit
 use Rattle.rules.specs.Recovery.{heldFiles, recovery}
 use Rattle.rules.specs.Plans.{Call, begin, openRead, commit, abort, readPage, lookPage, beginPlan, plan}
 use Rattle.rules.specs.Refusals.{tests, queryTests}
-use Rattle.rules.specs.Calls.{After, executed, call_by, call, queryBy, query, part_of, queryPart, look, lookPart}
+use Rattle.rules.specs.Calls.{After, executed, callBy, call, queryBy, query, partOf, queryPart, look, lookPart}
 use Rattle.rules.proofs.ExampleViews.{reads, active1, active2, active12, entry, rec, header, seen, records, at}
 
 -- The bytes of one sector.
@@ -54,11 +54,11 @@ budgets : let s = reads active12 (1 ∷ 2 ∷ 0 ∷ 0 ∷ []) in
     ∷ ends (done 2) s' (page 1 ++ page 2)
     ∷ ends (done 0) s' blank
     ∷ []
-unfolding cut_at storeAt
+unfolding cutAt storeAt
 budgets = refl
 
 -- "A refusal comes before any store, leaves every byte and hands back the session given."
-refused-as-given : (v : Volume) (s : Session) (c : Call) (budget : ℕ) → call_by 5 v s c budget ≡ ends (refused 5) s v
+refused-as-given : (v : Volume) (s : Session) (c : Call) (budget : ℕ) → callBy 5 v s c budget ≡ ends (refused 5) s v
 refused-as-given v s c budget = refl
 
 -- ------------------------------------------------------------------ read
@@ -92,14 +92,14 @@ sectors-looked = refl
 
 -- ------------------------------------------------------------------ parts
 -- "hands back that part of the lent array itself, 256 bytes, or an empty part on a refusal": the second of three sectors.
-parts : map (part_of (page 1 ++ (page 2 ++ page 3))) (found 1 ∷ queryRefused 1 ∷ []) ≡ page 2 ∷ [] ∷ []
+parts : map (partOf (page 1 ++ (page 2 ++ page 3))) (found 1 ∷ queryRefused 1 ∷ []) ≡ page 2 ∷ [] ∷ []
 unfolding sector
 parts = refl
 
 -- ------------------------------------------------------------------ on the bytes of a volume
 -- One client, which has begun and holds the one file, of two pages in three slots: page 0 is in slot 2 by its record.
 abbrev tiny : Volume
-tiny = cut_at (newVolume (record { sectors = 6; clients = 1; files = record { pages = 2; slots = 3 } ∷ [] }))
+tiny = cutAt (newVolume (record { sectors = 6; clients = 1; files = record { pages = 2; slots = 3 } ∷ [] }))
     (record { target = 1; bytes = encodeRecord (rec 1 (entry 1 0 2 ∷ [])) }
     ∷ record { target = 2; bytes = encodeHeader (record { pages = 2; slots = 3 }) (header 1 (0 ∷ 1 ∷ [])) }
     ∷ record { target = 3; bytes = page 3 }
@@ -111,7 +111,7 @@ tiny = cut_at (newVolume (record { sectors = 6; clients = 1; files = record { pa
 parts-read : map (λ p. queryPart tiny active1 (readPage 1 1 p)) (0 ∷ 1 ∷ 2 ∷ [])
     ++ (queryPart tiny newSession (readPage 1 1 0) ∷ queryPart (set tiny 0 0) active1 (readPage 1 1 0) ∷ [])
     ≡ page 5 ∷ page 4 ∷ [] ∷ [] ∷ [] ∷ []
-unfolding query queryTests first sessionFits markFits clientHoldsFit isReading sound lawful canonical encoded all view table_of recordIn headerIn decodeTable decodeFiles decodeRecord decodeEntries decodeHeader sector cut_at storeAt newVolume newFiles repeated sectorAfter encodeTable fileBytes encodeRecord entryBytes encodeHeader padded
+unfolding query queryTests first sessionFits markFits clientHoldsFit isReading sound lawful canonical encoded all view tableOf recordIn headerIn decodeTable decodeFiles decodeRecord decodeEntries decodeHeader sector cutAt storeAt newVolume newFiles repeated sectorAfter encodeTable fileBytes encodeRecord entryBytes encodeHeader padded
 parts-read = refl
 
 -- That record decided.
@@ -131,7 +131,7 @@ looks-found : map lookedAt (tiny ∷ decidedTiny ∷ set tiny 0 0 ∷ [])
     ∷ ((found 5, page 5) ∷ (found 4, page 4) ∷ refusedAs 9 ∷ replicate 3 (refusedAs 6))
     ∷ replicate 6 (refusedAs 1)
     ∷ []
-unfolding query queryTests first redone sound lawful canonical encoded all view table_of recordIn headerIn decodeTable decodeFiles decodeRecord decodeEntries decodeHeader sector cut_at storeAt newVolume newFiles repeated sectorAfter encodeTable fileBytes encodeRecord entryBytes encodeHeader padded
+unfolding query queryTests first redone sound lawful canonical encoded all view tableOf recordIn headerIn decodeTable decodeFiles decodeRecord decodeEntries decodeHeader sector cutAt storeAt newVolume newFiles repeated sectorAfter encodeTable fileBytes encodeRecord entryBytes encodeHeader padded
 looks-found = refl
 
 -- With holder 0, and with an idle record as well.
@@ -149,21 +149,21 @@ called : map (call tiny active1 (abort 1)) (2 ∷ 1 ∷ [])
     ∷ ends (refused 5) newSession tiny
     ∷ ends (refused 1) active1 (set tiny 0 0)
     ∷ []
-unfolding call tests plan recovery heldFiles allStores first sessionFits markFits clientHoldsFit isReading sound lawful canonical encoded all view table_of recordIn headerIn decodeTable decodeFiles decodeRecord decodeEntries decodeHeader sector cut_at storeAt newVolume newFiles repeated sectorAfter encodeTable fileBytes encodeRecord entryBytes encodeHeader padded
+unfolding call tests plan recovery heldFiles allStores first sessionFits markFits clientHoldsFit isReading sound lawful canonical encoded all view tableOf recordIn headerIn decodeTable decodeFiles decodeRecord decodeEntries decodeHeader sector cutAt storeAt newVolume newFiles repeated sectorAfter encodeTable fileBytes encodeRecord entryBytes encodeHeader padded
 called = refl
 
 -- The session after an open for reading: where client 1 holds the file for writing no hold is noted, and where nobody holds it, it is.
 reading-noted : map (λ v. (executed v active1 (openRead 1 1) 0 []).session) (tiny ∷ half ∷ []) ≡ active1 ∷ reads active1 (1 ∷ 0 ∷ 0 ∷ 0 ∷ []) ∷ []
-unfolding isReading withBit view table_of recordIn headerIn decodeTable decodeFiles decodeRecord decodeEntries decodeHeader sector cut_at storeAt newVolume newFiles repeated sectorAfter encodeTable fileBytes encodeRecord entryBytes encodeHeader padded
+unfolding isReading withBit view tableOf recordIn headerIn decodeTable decodeFiles decodeRecord decodeEntries decodeHeader sector cutAt storeAt newVolume newFiles repeated sectorAfter encodeTable fileBytes encodeRecord entryBytes encodeHeader padded
 reading-noted = refl
 
 -- It goes by the volume from before the call, also where a store takes client 1's hold for writing away.
 hold-from-before : (executed tiny active1 (openRead 1 1) 1
     (record { target = 2; bytes = encodeHeader (record { pages = 2; slots = 3 }) (header 0 (0 ∷ 1 ∷ [])) } ∷ [])).session ≡ active1
-unfolding isReading withBit view table_of recordIn headerIn decodeTable decodeFiles decodeRecord decodeEntries decodeHeader sector cut_at storeAt newVolume newFiles repeated sectorAfter encodeTable fileBytes encodeRecord entryBytes encodeHeader padded
+unfolding isReading withBit view tableOf recordIn headerIn decodeTable decodeFiles decodeRecord decodeEntries decodeHeader sector cutAt storeAt newVolume newFiles repeated sectorAfter encodeTable fileBytes encodeRecord entryBytes encodeHeader padded
 hold-from-before = refl
 
 -- The stores are those for the session given: client 1, marked, isn't recovered first.
-session-counts : call_by 0 tiny active1 (begin 1) 1 ≡ ends (done 1) active1 (storeAt tiny 1 (encodeRecord openRecord))
-unfolding plan beginPlan allStores view table_of recordIn headerIn decodeTable decodeFiles decodeRecord decodeEntries decodeHeader sector cut_at storeAt newVolume newFiles repeated sectorAfter encodeTable fileBytes encodeRecord entryBytes encodeHeader padded
+session-counts : callBy 0 tiny active1 (begin 1) 1 ≡ ends (done 1) active1 (storeAt tiny 1 (encodeRecord openRecord))
+unfolding plan beginPlan allStores view tableOf recordIn headerIn decodeTable decodeFiles decodeRecord decodeEntries decodeHeader sector cutAt storeAt newVolume newFiles repeated sectorAfter encodeTable fileBytes encodeRecord entryBytes encodeHeader padded
 session-counts = refl

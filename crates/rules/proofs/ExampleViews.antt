@@ -7,7 +7,7 @@ use Rattle.interface.specs.declared.Session.{Session}
 pub use Rattle.interface.proofs.AnswerExamples.{marks}
 use Rattle.lists.specs.Lists.{if◌then◌else◌}
 use Rattle.sector.specs.Contents.{Bytes, Table, Entry, Record, Header, idleRecord}
-use Rattle.volume.specs.Views.{View, no_header}
+use Rattle.volume.specs.Views.{View, noHeader}
 pub use Rattle.volume.proofs.PlaceExamples.{entry, rec, header}
 
 -- The session with these words of reading holds: bit 0 of the first is client 1's of file 1.
@@ -32,11 +32,11 @@ abbrev pub active12 : Session
 active12 = marks true true false false
 
 -- A view of two files, with their headers.
-abbrev pub view_of : Table → (ℕ → Record) → Header → Header → (ℕ → ℕ → Bytes) → View
-view_of t records h1 h2 slots = record {
+abbrev pub viewOf : Table → (ℕ → Record) → Header → Header → (ℕ → ℕ → Bytes) → View
+viewOf t records h1 h2 slots = record {
   table = t;
   records = records;
-  headers = λ f. if eqb f 1 then h1 else if eqb f 2 then h2 else no_header;
+  headers = λ f. if eqb f 1 then h1 else if eqb f 2 then h2 else noHeader;
   slots = slots;
 }
 
@@ -46,7 +46,7 @@ table = record { sectors = 20; clients = 4; files = record { pages = 3; slots = 
 
 -- Slot r of file f has the bytes f, r.
 abbrev pub seen : (ℕ → Record) → Header → Header → View
-seen records h1 h2 = view_of table records h1 h2 (λ f r. f ∷ r ∷ [])
+seen records h1 h2 = viewOf table records h1 h2 (λ f r. f ∷ r ∷ [])
 
 -- Client 1's transaction is in this state: it holds both files, page 1 of file 1 is in slot 4 and page 0 of file 2 in slot 2.
 -- Client 2's is decided, holds nothing, and gives slot 0 for page 0 and slot 3 for page 1 of file 1. Clients 3 and 4 are idle.

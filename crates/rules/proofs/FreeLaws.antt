@@ -12,8 +12,8 @@ use lib.Dec.{eqb}
 use Rattle.interface.specs.declared.Session.{Session}
 use Rattle.lists.specs.Lists.{if◌then◌else◌, every, member}
 use Rattle.sector.specs.Contents.{Bytes, Entry, Header, idleRecord}
-use Rattle.lists.proofs.ListLaws.{and_left, and_right, and_both, or-none}
-use Rattle.lists.proofs.CaseLaws.{by_equal, if-test}
+use Rattle.lists.proofs.ListLaws.{and-left, and-right, and-both, or-none}
+use Rattle.lists.proofs.CaseLaws.{by-equal, if-test}
 use Rattle.lists.proofs.SearchLaws.{or-true, every-end}
 use Rattle.volume.specs.Views.{View, Update, setRecord, setHeader, setSlot, changedBy}
 use Rattle.volume.proofs.PlaceLaws.{IsFile}
@@ -35,7 +35,7 @@ free-kept [] a g e h = h
 free-kept (setRecord k r ∷ xs) a g e h = free-kept xs _ g e h
 free-kept (setSlot f r d ∷ xs) a g e h = free-kept xs _ g e h
 free-kept (setHeader f x ∷ xs) a g e h =
-    free-kept xs _ g (and_right (not (eqb g f) || eqb x.holder 0) _ e) (go (eqb g f) (and_left (not (eqb g f) || eqb x.holder 0) _ e))
+    free-kept xs _ g (and-right (not (eqb g f) || eqb x.holder 0) _ e) (go (eqb g f) (and-left (not (eqb g f) || eqb x.holder 0) _ e))
   where
     go : (b : Bool) → (not b || eqb x.holder 0) ≡ true → (if b then x else a.headers g).holder ≡ 0
     go true q = eqb-true _ _ q
@@ -49,7 +49,7 @@ module _ (m : ℕ → List ℕ) (g : ℕ) where
 
   headers-free : (fs : List ℕ) → every (keepsFree g) (headers fs) ≡ true
   headers-free [] = refl
-  headers-free (f ∷ fs) = and_both (not (eqb g f) || true) _ (or-true (not (eqb g f)) true refl) (headers-free fs)
+  headers-free (f ∷ fs) = and-both (not (eqb g f) || true) _ (or-true (not (eqb g f)) true refl) (headers-free fs)
 
   freed : (fs : List ℕ) (a : View) (k : ℕ) → (member g fs || eqb (a.headers g).holder 0) ≡ true
       → ((changedBy a (headers fs ++ (setRecord k idleRecord ∷ []))).headers g).holder ≡ 0
@@ -107,16 +107,16 @@ module _ (a : View) (s : Session) (g : ℕ) where
       if-test Kept (holdsEither a s k f) [] _ (λ e. refl)
       (λ e. if-test Kept (heldByOrphan a s f) _ [] (λ o. recovery-keeps (isDecided a h) a h g) (λ o. refl))
 
-  write_keeps : (k f p : ℕ) (d : Bytes) (o : Option Entry) → Kept (writePlan a k f p d o)
-  write_keeps k f p d (some e) = refl
-  write_keeps k f p d none = refl
+  write-keeps : (k f p : ℕ) (d : Bytes) (o : Option Entry) → Kept (writePlan a k f p d o)
+  write-keeps k f p d (some e) = refl
+  write-keeps k f p d none = refl
 
   pub plan-keeps : (c : Call) → opensFile c g ≡ false → Kept (plan a s c)
   unfolding plan
   plan-keeps (begin k) n = begin-keeps k
   plan-keeps (openFile k f) n = open-keeps k f n
   plan-keeps (openRead k f) n = open-read-keeps k f
-  plan-keeps (write k f p d) n = write_keeps k f p d (entryFor a k f p)
+  plan-keeps (write k f p d) n = write-keeps k f p d (entryFor a k f p)
   plan-keeps (commit k) n = recovery-keeps true a k g
   plan-keeps (abort k) n = recovery-keeps false a k g
 
@@ -128,5 +128,5 @@ unfolding openReadPlan
 open-read-frees {a} {s} {k} {f} w e =
     let h = (a.headers f).holder in
     let n : h ≢ k = eqb-false _ _ (or-none (holds a k f) (isReading s k f) e).0 in
-    rw (e, holder-orphaned a s k f (w.act.ready.laws.headers f w.file) w.free n) (by_equal h 0
+    rw (e, holder-orphaned a s k f (w.act.ready.laws.headers f w.file) w.free n) (by-equal h 0
     (λ z. rw (eq-eqb h 0 z) z) (λ z. rw (ne_eqb h 0 z) (recovery-frees (isDecided a h) a h f w.file refl)))

@@ -11,12 +11,12 @@ use Rattle.interface.specs.Answers.{newSession}
 use Rattle.lists.specs.Lists.{if◌then◌else◌, all, first, filter, member, from}
 use Rattle.sector.specs.Contents.{Bytes, Entry, idleRecord, openRecord}
 use Rattle.volume.specs.Places.{sectorAfter}
-use Rattle.volume.specs.Views.{View, no_header}
+use Rattle.volume.specs.Views.{View, noHeader}
 use Rattle.volume.specs.Lawful.{lawful}
 use Rattle.rules.specs.Sessions.{isReading, isReadByOther, markFits, holdFits, clientHoldsFit, sessionFits}
 use Rattle.rules.specs.Plans.{Call, begin, openFile, openRead, write, commit, abort, readPage, lookPage, freeSlots}
 use Rattle.rules.specs.Refusals.{heldByOther, pageMissing, isNewPage, tests, queryTests}
-use Rattle.rules.proofs.ExampleViews.{marks, reads, active1, active2, active3, active12, entry, rec, header, view_of, seen, records, at}
+use Rattle.rules.proofs.ExampleViews.{marks, reads, active1, active2, active3, active12, entry, rec, header, viewOf, seen, records, at}
 
 -- ------------------------------------------------------------------ conditions
 -- "another marked kiln holds f": client 1 holds file 1. Asked for 1 and for 2, with client 1 marked and not.
@@ -26,7 +26,7 @@ held-by-other : heldByOther (at 1) active1 1 1 ∷ heldByOther (at 1) active1 2 
 held-by-other = refl
 
 -- Holder 0 is nobody.
-held-by-nobody : heldByOther (seen (records 1) (header 0 []) no_header) active12 2 1 ≡ false
+held-by-nobody : heldByOther (seen (records 1) (header 0 []) noHeader) active12 2 1 ≡ false
 held-by-nobody = refl
 
 -- "page not below P"
@@ -163,9 +163,9 @@ unfolding tests sessionFits markFits clientHoldsFit holdFits isReading all
 read-together = refl
 
 -- 8 "accepts either hold": a read of file 1 by clients 1 and 3.
-read_held : map (λ k. applying (queryTests true begun reading (readPage k 1 0))) (1 ∷ 3 ∷ []) ≡ [] ∷ (8 ∷ []) ∷ []
+read-held : map (λ k. applying (queryTests true begun reading (readPage k 1 0))) (1 ∷ 3 ∷ []) ≡ [] ∷ (8 ∷ []) ∷ []
 unfolding queryTests sessionFits markFits clientHoldsFit holdFits isReading all
-read_held = refl
+read-held = refl
 
 -- 16, "a write to a file held only for reading", and nothing else is wrong; a file that isn't held gets 8 alone. Client 1 reads file 1,
 -- client 3 file 2.
@@ -188,7 +188,7 @@ both-holds = refl
 -- What applies to a write by client 2, which holds file 1, with these entries and this map.
 abbrev writing : List Entry → List ℕ → ℕ → Bytes → List ℕ
 writing es m p d =
-    let a = seen (λ k. if eqb k 2 then rec 1 es else idleRecord) (header 2 m) no_header in
+    let a = seen (λ k. if eqb k 2 then rec 1 es else idleRecord) (header 2 m) noHeader in
     applying (tests true a active2 (write 2 1 p d))
 
 -- 9 and 10: page 3; 255 and 257 bytes.
@@ -220,7 +220,7 @@ unfolding tests sessionFits markFits clientHoldsFit isReading freeSlots all
 record-full = refl
 
 -- All of them at once: a new page of a file 9 for client 9, whose record is full.
-all-apply : applying (tests false (seen (λ k. rec 0 (replicate 62 (entry 1 0 4))) no_header no_header) active1 (write 9 9 9 []))
+all-apply : applying (tests false (seen (λ k. rec 0 (replicate 62 (entry 1 0 4))) noHeader noHeader) active1 (write 9 9 9 []))
     ≡ 1 ∷ 2 ∷ 3 ∷ 5 ∷ 6 ∷ 8 ∷ 9 ∷ 10 ∷ 11 ∷ 12 ∷ []
 unfolding tests sessionFits markFits clientHoldsFit isReading freeSlots all
 all-apply = refl
@@ -228,7 +228,7 @@ all-apply = refl
 -- ------------------------------------------------------------------ 11 and 12 together
 -- Client 1 holds both files and has written 62 pages of file 1, "P 70, R 240". File 2 has one page and no other slot.
 abbrev full : View
-full = view_of
+full = viewOf
     (record { sectors = 245; clients = 1; files = record { pages = 70; slots = 240 } ∷ record { pages = 1; slots = 1 } ∷ [] })
     (λ k. if eqb k 1 then rec 1 (map (λ p. entry 1 p (70 + p)) (from 0 62)) else idleRecord)
     (header 1 (from 0 70))

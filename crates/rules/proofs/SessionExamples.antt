@@ -11,9 +11,9 @@ use Rattle.interface.specs.Answers.{newSession}
 use Rattle.lists.specs.Lists.{if◌then◌else◌, all, from}
 use Rattle.byteset.specs.Bits.{withBit, withoutBit}
 use Rattle.sector.specs.Contents.{Table, Record, idleRecord, openRecord, decidedRecord}
-use Rattle.volume.specs.Views.{no_header}
+use Rattle.volume.specs.Views.{noHeader}
 use Rattle.rules.specs.Sessions.{isActive, setActive, noneActive, isReading, withReading, withoutReading, withoutReader, isReadByOther, isOrphaned, holds, holdsEither, markFits, holdFits, clientHoldsFit, sessionFits}
-use Rattle.rules.proofs.ExampleViews.{marks, reads, active1, active2, active3, active4, active12, entry, rec, header, view_of, seen, records, at}
+use Rattle.rules.proofs.ExampleViews.{marks, reads, active1, active2, active3, active4, active12, entry, rec, header, viewOf, seen, records, at}
 
 -- ------------------------------------------------------------------ marks
 -- The mark of client k is the k-th; there is none for a fifth.
@@ -92,16 +92,16 @@ mark-fits = refl
 
 -- The entries are those of the client's own record: client 2 has one for file 1, which client 1 holds.
 mark-own : let given : ℕ → Record = λ k. if eqb k 2 then rec 1 (entry 1 0 0 ∷ []) else openRecord in
-    map (markFits (seen given (header 1 (1 ∷ 5 ∷ 2 ∷ [])) no_header)) (1 ∷ 2 ∷ []) ≡ true ∷ false ∷ []
+    map (markFits (seen given (header 1 (1 ∷ 5 ∷ 2 ∷ [])) noHeader)) (1 ∷ 2 ∷ []) ≡ true ∷ false ∷ []
 unfolding markFits all
 mark-own = refl
 
 -- Each mark by itself is tested; a client that isn't marked isn't.
-session-fits : map (sessionFits (seen (λ k. idleRecord) no_header no_header)) singles ≡ true ∷ false ∷ false ∷ false ∷ false ∷ []
+session-fits : map (sessionFits (seen (λ k. idleRecord) noHeader noHeader)) singles ≡ true ∷ false ∷ false ∷ false ∷ false ∷ []
 unfolding sessionFits markFits clientHoldsFit isReading all
 session-fits = refl
 
-all-four-fit : sessionFits (seen (λ k. openRecord) no_header no_header) (marks true true true true) ≡ true
+all-four-fit : sessionFits (seen (λ k. openRecord) noHeader noHeader) (marks true true true true) ≡ true
 unfolding sessionFits markFits clientHoldsFit isReading all
 all-four-fit = refl
 
@@ -109,7 +109,7 @@ all-four-fit = refl
 abbrev fourth : (T : ℕ) → Record → Bool
 fourth T r =
     let t : Table = record { sectors = 11; clients = T; files = record { pages = 1; slots = 1 } ∷ [] } in
-    sessionFits (view_of t (λ k. if eqb k 4 then r else idleRecord) (header 0 (0 ∷ [])) no_header (λ f r. [])) active4
+    sessionFits (viewOf t (λ k. if eqb k 4 then r else idleRecord) (header 0 (0 ∷ [])) noHeader (λ f r. [])) active4
 
 -- "a kiln above T", though its record is open.
 above-T : fourth 3 openRecord ≡ false
@@ -147,7 +147,7 @@ unfolding sessionFits markFits clientHoldsFit holdFits isReading all
 holder-named = refl
 
 -- Each client's holds are tested, marked or not, and several clients may read one file.
-every-client : map (sessionFits (seen (λ k. openRecord) (header 0 (1 ∷ 5 ∷ 2 ∷ [])) no_header))
+every-client : map (sessionFits (seen (λ k. openRecord) (header 0 (1 ∷ 5 ∷ 2 ∷ [])) noHeader))
     (reads active2 (1 ∷ 0 ∷ 0 ∷ 0 ∷ []) ∷ reads active1 (0 ∷ 1 ∷ 0 ∷ 0 ∷ []) ∷ reads active1 (0 ∷ 0 ∷ 1 ∷ 0 ∷ [])
     ∷ reads (marks true true true true) (1 ∷ 1 ∷ 1 ∷ 1 ∷ []) ∷ [])
     ≡ false ∷ false ∷ false ∷ true ∷ []
@@ -155,6 +155,6 @@ unfolding sessionFits markFits clientHoldsFit holdFits isReading all
 every-client = refl
 
 -- A session with holds and no mark fits no volume.
-holds-alone : sessionFits (seen (λ k. openRecord) (header 0 (1 ∷ 5 ∷ 2 ∷ [])) no_header) (reads newSession (1 ∷ 0 ∷ 0 ∷ 0 ∷ [])) ≡ false
+holds-alone : sessionFits (seen (λ k. openRecord) (header 0 (1 ∷ 5 ∷ 2 ∷ [])) noHeader) (reads newSession (1 ∷ 0 ∷ 0 ∷ 0 ∷ [])) ≡ false
 unfolding sessionFits markFits clientHoldsFit holdFits isReading all
 holds-alone = refl

@@ -13,7 +13,7 @@ use Rattle.sector.specs.Decoding.{decodeFiles, decodeTable, decodeEntries, decod
 use Rattle.sector.specs.Encoded.{hasMark}
 use Rattle.volume.specs.Places.{sectorAfter}
 use Rattle.volume.specs.Views.{View}
-use Rattle.volume.specs.Volumes.{Volume, table_of, recordIn, headerIn, view}
+use Rattle.volume.specs.Volumes.{Volume, tableOf, recordIn, headerIn, view}
 use Rattle.volume.specs.Lawful.{lawful}
 use Rattle.volume.specs.Sound.{encoded, canonical, sound, tableSoundIn}
 use Rattle.volume.specs.Format.{repeated, newFiles, newVolume}
@@ -38,19 +38,19 @@ answered m n = counted m ∷ counted n ∷ countRefused 6 ∷ countRefused 6 ∷
 
 -- Three slots are left of five, two of three.
 spares : asked tiny ≡ answered 3 2
-unfolding spare first tableSoundIn hasMark all view table_of decodeTable decodeFiles sector newVolume newFiles repeated sectorAfter encodeTable fileBytes encodeRecord entryBytes encodeHeader padded
+unfolding spare first tableSoundIn hasMark all view tableOf decodeTable decodeFiles sector newVolume newFiles repeated sectorAfter encodeTable fileBytes encodeRecord entryBytes encodeHeader padded
 spares = refl
 
 -- "answers that byte", right or wrong, and of that file.
 as-it-stands : map asked (with 2 3 7 ∷ with 8 3 255 ∷ with 2 3 0 ∷ []) ≡ answered 7 2 ∷ answered 3 255 ∷ answered 0 2 ∷ []
-unfolding spare first tableSoundIn hasMark all view table_of decodeTable decodeFiles sector storeAt newVolume newFiles repeated sectorAfter encodeTable fileBytes encodeRecord entryBytes encodeHeader padded
+unfolding spare first tableSoundIn hasMark all view tableOf decodeTable decodeFiles sector storeAt newVolume newFiles repeated sectorAfter encodeTable fileBytes encodeRecord entryBytes encodeHeader padded
 as-it-stands = refl
 
 -- It looks at nothing else: the record's mark, state and last byte, a header's holder, map, zero bytes and last byte, a slot and a
 -- later sector.
 others : map asked (with 1 0 0 ∷ with 1 2 3 ∷ with 1 255 1 ∷ with 2 2 9 ∷ with 2 8 1 ∷ with 2 9 99 ∷ with 2 4 1 ∷ with 2 255 1 ∷ with 8 8 3 ∷ with 4 0 1 ∷ with 12 0 1 ∷ [])
     ≡ replicate 11 (answered 3 2)
-unfolding spare first tableSoundIn hasMark all view table_of decodeTable decodeFiles sector storeAt newVolume newFiles repeated sectorAfter encodeTable fileBytes encodeRecord entryBytes encodeHeader padded
+unfolding spare first tableSoundIn hasMark all view tableOf decodeTable decodeFiles sector storeAt newVolume newFiles repeated sectorAfter encodeTable fileBytes encodeRecord entryBytes encodeHeader padded
 others = refl
 
 -- "then that header's mark by 1", each of its bytes, and no other header's: after 6, which is given for a file that there isn't.
@@ -60,7 +60,7 @@ marks-tested : map asked (with 2 0 0 ∷ with 2 1 0x49 ∷ with 8 0 0 ∷ with 8
     ∷ (counted 3 ∷ countRefused 1 ∷ countRefused 6 ∷ countRefused 6 ∷ [])
     ∷ (counted 3 ∷ countRefused 1 ∷ countRefused 6 ∷ countRefused 6 ∷ [])
     ∷ []
-unfolding spare first tableSoundIn hasMark all view table_of decodeTable decodeFiles sector storeAt newVolume newFiles repeated sectorAfter encodeTable fileBytes encodeRecord entryBytes encodeHeader padded
+unfolding spare first tableSoundIn hasMark all view tableOf decodeTable decodeFiles sector storeAt newVolume newFiles repeated sectorAfter encodeTable fileBytes encodeRecord entryBytes encodeHeader padded
 marks-tested = refl
 
 -- "sector 0 and the array's length by 1", whatever the file: the mark, N, T, F, a zero byte, a header's sector, P, and the last byte;
@@ -68,7 +68,7 @@ marks-tested = refl
 table-tested : map asked (with 0 0 0 ∷ with 0 2 12 ∷ with 0 4 0 ∷ with 0 5 0 ∷ with 0 6 1 ∷ with 0 8 3 ∷ with 0 10 0 ∷ with 0 255 1 ∷ [])
     ++ map asked ((tiny ++ (0 ∷ [])) ∷ take 3072 tiny ∷ [] ∷ [])
     ≡ replicate 11 (replicate 4 (countRefused 1))
-unfolding spare first tableSoundIn hasMark all view table_of decodeTable decodeFiles sector storeAt newVolume newFiles repeated sectorAfter encodeTable fileBytes encodeRecord entryBytes encodeHeader padded
+unfolding spare first tableSoundIn hasMark all view tableOf decodeTable decodeFiles sector storeAt newVolume newFiles repeated sectorAfter encodeTable fileBytes encodeRecord entryBytes encodeHeader padded
 table-tested = refl
 
 -- ------------------------------------------------------------------ the count taken from the whole map
@@ -91,13 +91,13 @@ mapped-oddly = refl
 
 -- ------------------------------------------------------------------ the claims hold of these
 -- Another record's mark, and another map of file 1: the answer about file 2 is the same.
-reads_here : SpareReads → spare (with 1 0 0) 2 ≡ spare (with 2 8 99) 2
-unfolding view table_of decodeTable decodeFiles sector storeAt newVolume newFiles repeated sectorAfter encodeTable fileBytes encodeRecord entryBytes encodeHeader padded
-reads_here h = h (with 1 0 0) (with 2 8 99) 2 refl refl (λ i. refl)
+reads-here : SpareReads → spare (with 1 0 0) 2 ≡ spare (with 2 8 99) 2
+unfolding view tableOf decodeTable decodeFiles sector storeAt newVolume newFiles repeated sectorAfter encodeTable fileBytes encodeRecord entryBytes encodeHeader padded
+reads-here h = h (with 1 0 0) (with 2 8 99) 2 refl refl (λ i. refl)
 
 -- There is no file 3: nothing of the sector behind file 2 is asked for, though a third header would be there.
 reads-no-file : SpareReads → spare (with 12 0 1) 3 ≡ spare tiny 3
-unfolding view table_of decodeTable decodeFiles sector storeAt newVolume newFiles repeated sectorAfter encodeTable fileBytes encodeRecord entryBytes encodeHeader padded
+unfolding view tableOf decodeTable decodeFiles sector storeAt newVolume newFiles repeated sectorAfter encodeTable fileBytes encodeRecord entryBytes encodeHeader padded
 reads-no-file h = h (with 12 0 1) tiny 3 refl refl (λ i. absurd (not-3 i.high))
   where
     not-3 : 3 ≤ 2 → ⊥
@@ -105,7 +105,7 @@ reads-no-file h = h (with 12 0 1) tiny 3 refl refl (λ i. absurd (not-3 i.high))
 
 -- On a sound volume the question answers as many as its map doesn't use.
 count-here : SpareIsCount → (spare tiny 1 ≡ counted 3) × (spare tiny 2 ≡ counted 2)
-unfolding sound lawful canonical encoded all view table_of recordIn headerIn decodeTable decodeFiles decodeRecord decodeEntries decodeHeader sector newVolume newFiles repeated sectorAfter encodeTable fileBytes encodeRecord entryBytes encodeHeader padded
+unfolding sound lawful canonical encoded all view tableOf recordIn headerIn decodeTable decodeFiles decodeRecord decodeEntries decodeHeader sector newVolume newFiles repeated sectorAfter encodeTable fileBytes encodeRecord entryBytes encodeHeader padded
 count-here h = (h tiny 1 refl (record { low = omega arith; high = omega arith }), h tiny 2 refl (record { low = omega arith; high = omega arith }))
 
 -- Mapped and unmapped slots together are all of a file, with an odd map too; a file that there isn't has none.
@@ -115,5 +115,5 @@ together-here h = (h odd 1, h odd 3)
 
 -- On a sound volume as many slots are mapped as the file has pages: two of file 1, one of file 2.
 each-page-here : SlotOfEachPage → (length (mappedSlots (view tiny) 1) ≡ 2) × (length (mappedSlots (view tiny) 2) ≡ 1)
-unfolding sound lawful canonical encoded all view table_of recordIn headerIn decodeTable decodeFiles decodeRecord decodeEntries decodeHeader sector newVolume newFiles repeated sectorAfter encodeTable fileBytes encodeRecord entryBytes encodeHeader padded
+unfolding sound lawful canonical encoded all view tableOf recordIn headerIn decodeTable decodeFiles decodeRecord decodeEntries decodeHeader sector newVolume newFiles repeated sectorAfter encodeTable fileBytes encodeRecord entryBytes encodeHeader padded
 each-page-here h = (h tiny 1 refl (record { low = omega arith; high = omega arith }), h tiny 2 refl (record { low = omega arith; high = omega arith }))

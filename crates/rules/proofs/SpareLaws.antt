@@ -17,7 +17,7 @@ use Rattle.sector.specs.Encoding.{encodeHeader}
 use Rattle.sector.specs.Decoding.{decodeTable, spareIn}
 use Rattle.sector.proofs.CodecLaws.{header-mark, header-spare}
 use Rattle.volume.specs.Places.{IsFile, isFile, fileAt}
-use Rattle.volume.specs.Volumes.{Volume, table_of, view}
+use Rattle.volume.specs.Volumes.{Volume, tableOf, view}
 use Rattle.volume.specs.WellFormed.{TableFormed}
 use Rattle.volume.specs.Sound.{sound, tableSoundIn}
 use Rattle.volume.proofs.PlaceLaws.{is-file, file-of}
@@ -28,19 +28,19 @@ use Rattle.rules.specs.Spare.{headerOf, spareTests, spareBy, spare, SpareReads, 
 
 -- ------------------------------------------------------------------ what it reads
 same-table : (v w : Volume) → sector v 0 ≡ sector w 0 → (view v).table ≡ (view w).table
-unfolding view table_of
+unfolding view tableOf
 same-table v w e = ap decodeTable e
 
-same_test : (v w : Volume) → length v ≡ length w → sector v 0 ≡ sector w 0 → tableSoundIn v ≡ tableSoundIn w
-unfolding tableSoundIn table_of
-same_test v w n e = rw (n, e)
+same-test : (v w : Volume) → length v ≡ length w → sector v 0 ≡ sector w 0 → tableSoundIn v ≡ tableSoundIn w
+unfolding tableSoundIn tableOf
+same-test v w n e = rw (n, e)
 
 module _ (v w : Volume) (f : ℕ) (n : length v ≡ length w) (e : sector v 0 ≡ sector w 0) where
   -- The file's header is alike.
   same-header : headerOf v f ≡ headerOf w f → spare v f ≡ spare w f
   unfolding spare
   same-header h =
-      let t : first (spareTests v f) ≡ first (spareTests w f) = rw (h, same_test v w n e, same-table v w e) in
+      let t : first (spareTests v f) ≡ first (spareTests w f) = rw (h, same-test v w n e, same-table v w e) in
       rw t (go (first (spareTests w f)))
     where
       go : (x : ℕ) → spareBy x v f ≡ spareBy x w f
@@ -52,7 +52,7 @@ module _ (v w : Volume) (f : ℕ) (n : length v ≡ length w) (e : sector v 0 �
   unfolding spare first
   no-header x =
       let y : isFile (view w).table f ≡ false = rw (same-table v w e) at x in
-      by-test (tableSoundIn w) (λ b. rw (same_test v w n e, b, x, y)) (λ b. rw (same_test v w n e, b))
+      by-test (tableSoundIn w) (λ b. rw (same-test v w n e, b, x, y)) (λ b. rw (same-test v w n e, b))
 
 pub spare-reads : SpareReads
 spare-reads v w f n e h =
@@ -79,20 +79,20 @@ module _ (v : Volume) (f : ℕ) (ok : sound v ≡ true) (i : IsFile (view v).tab
   map-facts : MapFacts (view v).table f ((view v).headers f).map
   map-facts = ((fine v ok).laws.headers f i).map
 
-  header_is : headerOf v f ≡ encodeHeader (fileAt (view v).table f) ((view v).headers f)
-  header_is = (fine v ok).formed.header-bytes f i.low i.high
+  header-is : headerOf v f ≡ encodeHeader (fileAt (view v).table f) ((view v).headers f)
+  header-is = (fine v ok).formed.header-bytes f i.low i.high
 
   -- None of the question's tests refuses it.
   passes : first (spareTests v f) ≡ 0
   unfolding first
-  passes = rw (sound-table v ok, is-file (view v).table f i, header_is, header-mark (fileAt (view v).table f) ((view v).headers f))
+  passes = rw (sound-table v ok, is-file (view v).table f i, header-is, header-mark (fileAt (view v).table f) ((view v).headers f))
 
 pub spare-count : SpareIsCount
 unfolding spare
 spare-count v f ok i =
     let m : MapFacts (view v).table f ((view v).headers f).map = map-facts v f ok i in
     rw (passes v f ok i)
-    (ap counted (ap spareIn (header_is v f ok i) ∙ header-spare (fileAt (view v).table f) ((view v).headers f) ∙ count-others (fileAt (view v).table f).slots ((view v).headers f).map m.below m.unlike))
+    (ap counted (ap spareIn (header-is v f ok i) ∙ header-spare (fileAt (view v).table f) ((view v).headers f) ∙ count-others (fileAt (view v).table f).slots ((view v).headers f).map m.below m.unlike))
 
 pub slots-together : SlotsTogether
 slots-together a f = count-both (λ r. member r (a.headers f).map) (from 0 (fileAt a.table f).slots) ∙ from-length _ 0

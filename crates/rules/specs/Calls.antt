@@ -10,7 +10,7 @@ use Rattle.volume.specs.Places.{slotPlace, sectorOf}
 use Rattle.volume.specs.Views.{View}
 use Rattle.volume.specs.Volumes.{Volume, view}
 use Rattle.volume.specs.Sound.{sound}
-use Rattle.volume.specs.Stores.{Store, cut_at, allStores}
+use Rattle.volume.specs.Stores.{Store, cutAt, allStores}
 use Rattle.rules.specs.Plans.{Call, Query, readPage, lookPage, entryFor, slotFor, plan, sessionAfter}
 use Rattle.rules.specs.Content.{decidedSlot}
 use Rattle.rules.specs.Refusals.{tests, queryTests}
@@ -26,21 +26,21 @@ pub record After : Type 0 where
 abbrev pub executed : Volume → Session → Call → (budget : ℕ) → List Store → After
 executed v s c budget xs =
     if leb (length xs) budget
-    then record { answer = done (length xs); session = sessionAfter (view v) s c; volume = cut_at v xs budget }
-    else record { answer = crashed budget; session = newSession; volume = cut_at v xs budget }
+    then record { answer = done (length xs); session = sessionAfter (view v) s c; volume = cutAt v xs budget }
+    else record { answer = crashed budget; session = newSession; volume = cutAt v xs budget }
 
 -- The stores of a call that isn't refused.
 abbrev pub callStores : Volume → Session → Call → List Store
 callStores v s c = allStores (view v).table (plan (view v) s c)
 
 -- The number is the refusal's, or 0. "A refusal comes before any store, leaves every byte and hands back the session given."
-abbrev pub call_by : ℕ → Volume → Session → Call → (budget : ℕ) → After
-call_by zero v s c budget = executed v s c budget (callStores v s c)
-call_by (suc n) v s c budget = record { answer = refused (suc n); session = s; volume = v }
+abbrev pub callBy : ℕ → Volume → Session → Call → (budget : ℕ) → After
+callBy zero v s c budget = executed v s c budget (callStores v s c)
+callBy (suc n) v s c budget = record { answer = refused (suc n); session = s; volume = v }
 
 -- Begin, open for writing and for reading, write, commit and abort.
 unfoldable pub call : Volume → Session → Call → (budget : ℕ) → After
-call v s c budget = call_by (first (tests (sound v) (view v) s c)) v s c budget
+call v s c budget = callBy (first (tests (sound v) (view v) s c)) v s c budget
 
 -- ------------------------------------------------------------------ questions
 -- The answer to a question that isn't refused. Read "answers the sector number": "the sector that (f, p) has in record k, else
@@ -59,13 +59,13 @@ unfoldable pub query : Volume → Session → Query → QueryAnswer
 query v s q = queryBy (first (queryTests (sound v) (view v) s q)) (view v) q
 
 -- "a second call hands back that part of the lent array itself, 256 bytes, or an empty part on a refusal"
-abbrev pub part_of : Volume → QueryAnswer → Bytes
-part_of v (found n) = sector v n
-part_of v (queryRefused n) = []
+abbrev pub partOf : Volume → QueryAnswer → Bytes
+partOf v (found n) = sector v n
+partOf v (queryRefused n) = []
 
 -- That second call, with the question's arguments.
 abbrev pub queryPart : Volume → Session → Query → Bytes
-queryPart v s q = part_of v (query v s q)
+queryPart v s q = partOf v (query v s q)
 
 -- M-103: "A look takes only the volume, a file and a page", so it is the same whatever session there is; "and a second call hands
 -- back that part".
@@ -73,4 +73,4 @@ abbrev pub look : Volume → (file : ℕ) → (page : ℕ) → QueryAnswer
 look v f p = query v newSession (lookPage f p)
 
 abbrev pub lookPart : Volume → (file : ℕ) → (page : ℕ) → Bytes
-lookPart v f p = part_of v (look v f p)
+lookPart v f p = partOf v (look v f p)

@@ -3,7 +3,7 @@
 -- 9"; and M-104's question tests 1 again after 6 (`Spare`).
 use Rattle.std.specs.Prelude.{Bool, not, ◌&&◌, ◌||◌, List, [], ◌∷◌, ◌++◌, ℕ, eqb, ltb, length}
 use Rattle.interface.specs.declared.Session.{Session}
-use Rattle.lists.specs.Lists.{is_some}
+use Rattle.lists.specs.Lists.{isSome}
 use Rattle.sector.specs.Layout.{entryLimit}
 use Rattle.sector.specs.Contents.{Bytes, File, Entry, Record, Header}
 use Rattle.volume.specs.Places.{isClient, isFile, fileAt}
@@ -19,7 +19,7 @@ heldByOther a s k f =
 
 -- Record k has "no entry yet" for (f, p).
 abbrev pub isNewPage : View → ℕ → ℕ → ℕ → Bool
-isNewPage a k f p = not (is_some (entryFor a k f p))
+isNewPage a k f p = not (isSome (entryFor a k f p))
 
 -- A refusal's number, and whether it applies.
 abbrev pub Test : Type 0
@@ -64,8 +64,8 @@ abbrev pub notHeld : View → Session → ℕ → ℕ → Test
 notHeld a s k f = (8, not (holdsEither a s k f))
 
 -- M-102: "a write to a file held only for reading".
-abbrev pub read_only : View → Session → ℕ → ℕ → Test
-read_only a s k f = (16, isReading s k f && not (holds a k f))
+abbrev pub readOnly : View → Session → ℕ → ℕ → Test
+readOnly a s k f = (16, isReading s k f && not (holds a k f))
 
 -- "page not below P"
 abbrev pub pageMissing : View → ℕ → ℕ → Test
@@ -109,7 +109,7 @@ readTests a s k f p = heldTests a s k f ++ (pageMissing a f p ∷ [])
 
 -- Of a page that it writes.
 abbrev pub writeTests : View → Session → ℕ → ℕ → ℕ → List Test
-writeTests a s k f p = heldTests a s k f ++ (read_only a s k f ∷ pageMissing a f p ∷ [])
+writeTests a s k f p = heldTests a s k f ++ (readOnly a s k f ∷ pageMissing a f p ∷ [])
 
 -- Of where a page that is written goes. `isNew`: it has no entry yet.
 abbrev pub slotTests : (isNew : Bool) → View → ℕ → ℕ → Bytes → List Test

@@ -8,14 +8,14 @@ use Rattle.sector.specs.Decoding.{spareIn}
 use Rattle.sector.specs.Encoded.{hasHeaderMark}
 use Rattle.volume.specs.Places.{IsFile, fileAt, headerPlace}
 use Rattle.volume.specs.Views.{View}
-use Rattle.volume.specs.Volumes.{Volume, bytes_at, view}
+use Rattle.volume.specs.Volumes.{Volume, bytesAt, view}
 use Rattle.volume.specs.Sound.{sound, tableSoundIn}
 use Rattle.rules.specs.Refusals.{Test, notSound, fileMissing}
 
 -- ------------------------------------------------------------------ the question
 -- The sector of file f's header.
 abbrev pub headerOf : Volume → (file : ℕ) → Bytes
-headerOf v f = bytes_at (view v).table v (headerPlace f)
+headerOf v f = bytesAt (view v).table v (headerPlace f)
 
 -- "this question tests sector 0 and the array's length by 1, then 6, then that header's mark by 1"
 abbrev pub spareTests : Volume → (file : ℕ) → List Test

@@ -34,15 +34,15 @@ module _ (l : Bytes) (i : ℕ) (h : i < length l) where
   pub digits-end : (n : ℕ) → get_or l i 0 ≡ 0x20 → digitsFrom n (drop i l) ≡ n
   digits-end n e = rw (next, eq-eqb _ _ e)
 
-  pub digits_low : (n : ℕ) → get_or l i 0 ≢ 0x20 → get_or l i 0 < 48 → digitsFrom n (drop i l) ≡ tooLarge
-  digits_low n e lt = rw (next, ne_eqb _ _ e, lt-leb 48 _ lt)
+  pub digits-low : (n : ℕ) → get_or l i 0 ≢ 0x20 → get_or l i 0 < 48 → digitsFrom n (drop i l) ≡ tooLarge
+  digits-low n e lt = rw (next, ne_eqb _ _ e, lt-leb 48 _ lt)
 
   pub digits-high : (n : ℕ) → get_or l i 0 ≢ 0x20 → 57 < get_or l i 0 → digitsFrom n (drop i l) ≡ tooLarge
   digits-high n e lt = rw (next, ne_eqb _ _ e, lt-leb _ 57 lt, and-false (leb 48 (get_or l i 0)))
 
-  pub digits_more : (n : ℕ) → get_or l i 0 ≢ 0x20 → 48 ≤ get_or l i 0 → get_or l i 0 ≤ 57
+  pub digits-more : (n : ℕ) → get_or l i 0 ≢ 0x20 → 48 ≤ get_or l i 0 → get_or l i 0 ≤ 57
       → digitsFrom n (drop i l) ≡ digitsFrom (min (10 * n + (get_or l i 0 - 48)) tooLarge) (drop (i + 1) l)
-  digits_more n e lo hi = rw (next, ne_eqb _ _ e, le-leb 48 _ lo, le-leb _ 57 hi)
+  digits-more n e lo hi = rw (next, ne_eqb _ _ e, le-leb 48 _ lo, le-leb _ 57 hi)
 
 -- ------------------------------------------------------------------ at the end
 module _ (l : Bytes) (i : ℕ) (h : length l ≤ i) where
@@ -71,29 +71,29 @@ front-end l i h = rw (drop_of_length-le l h)
 -- With c, the line's byte at i.
 module _ (w l : Bytes) (i : ℕ) {c : ℕ} (f : c ≡ front (drop i l)) where
   module _ (h : i < length w) where
-    at_byte : hasWord (drop i w) (drop i l) ≡ (eqb c (get_or w i 0) && (isSpace (get_or w i 0) || hasWord (drop (i + 1) w) (drop (i + 1) l)))
-    at_byte = rw (drop-next w i 0 h, drop-drop 1 i l, f)
+    at-byte : hasWord (drop i w) (drop i l) ≡ (eqb c (get_or w i 0) && (isSpace (get_or w i 0) || hasWord (drop (i + 1) w) (drop (i + 1) l)))
+    at-byte = rw (drop-next w i 0 h, drop-drop 1 i l, f)
 
     pub word-differs : c ≢ get_or w i 0 → hasWord (drop i w) (drop i l) ≡ false
-    word-differs e = rw (at_byte, ne_eqb _ _ e)
+    word-differs e = rw (at-byte, ne_eqb _ _ e)
 
     pub word-whole : c ≡ get_or w i 0 → get_or w i 0 ≡ 0x20 → hasWord (drop i w) (drop i l) ≡ true
-    word-whole e s = rw (at_byte, eq-eqb _ _ e, eq-eqb _ _ s)
+    word-whole e s = rw (at-byte, eq-eqb _ _ e, eq-eqb _ _ s)
 
-    pub word_more : c ≡ get_or w i 0 → get_or w i 0 ≢ 0x20 → hasWord (drop i w) (drop i l) ≡ hasWord (drop (i + 1) w) (drop (i + 1) l)
-    word_more e s = rw (at_byte, eq-eqb _ _ e, ne_eqb _ _ s)
+    pub word-more : c ≡ get_or w i 0 → get_or w i 0 ≢ 0x20 → hasWord (drop i w) (drop i l) ≡ hasWord (drop (i + 1) w) (drop (i + 1) l)
+    word-more e s = rw (at-byte, eq-eqb _ _ e, ne_eqb _ _ s)
 
-  pub word_end : length w ≤ i → hasWord (drop i w) (drop i l) ≡ isSpace c
-  word_end h = rw (drop_of_length-le w {i = i} h, f)
+  pub word-end : length w ≤ i → hasWord (drop i w) (drop i l) ≡ isSpace c
+  word-end h = rw (drop_of_length-le w {i = i} h, f)
 
 -- ------------------------------------------------------------------ field by field
 pub field-first : (l : Bytes) → drop 0 l ≡ fromField 0 l
 unfolding fromField
 field-first l = refl
 
-pub field_next : (l : Bytes) (n at : ℕ) → drop at l ≡ fromField n l → behindSpace (drop at l) ≡ fromField (n + 1) l
+pub field-next : (l : Bytes) (n at : ℕ) → drop at l ≡ fromField n l → behindSpace (drop at l) ≡ fromField (n + 1) l
 unfolding fromField
-field_next l n at e = rw (e, add-one n)
+field-next l n at e = rw (e, add-one n)
 
 -- Argument n, from where its field begins, with its first byte c.
 module _ (l : Bytes) (n at : ℕ) {c : ℕ} (e : drop at l ≡ fromField n l) (f : c ≡ front (drop at l)) where

@@ -7,10 +7,10 @@ use lib.ListN.{replicate}
 use Rattle.lists.specs.Lists.{all}
 use Rattle.script.specs.declared.Kind.{Kind}
 use Rattle.script.specs.Fields.{fromField}
-use Rattle.script.specs.Kinds.{bytes_of, rows, kindIn, kind_of}
+use Rattle.script.specs.Kinds.{bytesOf, rows, kindIn, kindOf}
 
 abbrev kinds : List String → List Kind
-kinds ls = map (λ l. kind_of (bytes_of l)) ls
+kinds ls = map (λ l. kindOf (bytesOf l)) ls
 
 -- A BUDGET may be left out.
 calls : kinds ("begin 255" ∷ "begin 1 255" ∷ "open 1 2 3" ∷ "open_read 1 2" ∷ "open_read 1 2 3" ∷ "commit 1" ∷ "abort 1 0" ∷ "read 1 2 3" ∷ "look 0 255" ∷ "look 255 0" ∷ "spare 0" ∷ "spare 255" ∷ "write 1 2 3 4 512 6" ∷ [])

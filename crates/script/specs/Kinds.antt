@@ -10,9 +10,9 @@ use Rattle.script.specs.declared.Row.{Row}
 use Rattle.script.specs.Fields.{arguments, argument, hasWord}
 
 -- The bytes of a text in ASCII.
-abbrev pub bytes_of : String → Bytes
-bytes_of []ˢ = []
-bytes_of (c ∷ˢ s) = code c ∷ bytes_of s
+abbrev pub bytesOf : String → Bytes
+bytesOf []ˢ = []
+bytesOf (c ∷ˢ s) = code c ∷ bytesOf s
 
 -- The list with as many of these behind it as make n elements.
 abbrev pub filled : {A : Type 0} → (n : ℕ) → A → List A → List A
@@ -27,7 +27,7 @@ limits x = x.4 ∷ x.5 ∷ x.6 ∷ x.7 ∷ x.8 ∷ []
 abbrev pub line : Kind → String → (limits : List ℕ) → (n : ℕ) → Row
 line k w ms n = record {
   0 = k;
-  1 = filled 10 0x20 (bytes_of w);
+  1 = filled 10 0x20 (bytesOf w);
   2 = length ms;
   3 = length ms + n;
   4 = get_or ms 0 255;
@@ -77,5 +77,5 @@ kindIn [] l = Kind.Unknown
 kindIn (x ∷ xs) l = if fits x l then x.0 else kindIn xs l
 
 -- What a line asks for.
-abbrev pub kind_of : Bytes → Kind
-kind_of l = kindIn rows l
+abbrev pub kindOf : Bytes → Kind
+kindOf l = kindIn rows l

@@ -1,6 +1,6 @@
 // What a line asks for, by its word and its arguments.
 ghost use Rattle.std.specs.Prelude.{◌≡◌, ◌∷◌, ◌+◌, ◌<◌, length, drop};
-ghost use Rattle.script.specs.Kinds.{rows, argumentsFit, kind_of};
+ghost use Rattle.script.specs.Kinds.{rows, argumentsFit, kindOf};
 ghost use Rattle.script.specs.Kinds;
 
 use crate::fields::{argument, arguments, has_word};
@@ -108,7 +108,7 @@ fn fits(line: &[u8], x: Row) -> bool
 
 // What a line asks for.
 pub fn kind(line: &[u8]) -> Kind
-    ensures { result ≡ kind_of line.now }
+    ensures { result ≡ kindOf line.now }
 {
     let mut i = 0;
     while i < ROWS.len() {

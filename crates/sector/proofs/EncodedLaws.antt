@@ -18,7 +18,7 @@ use Rattle.sector.specs.Sectors.{byte, word, padded}
 use Rattle.sector.specs.Encoding.{controlSector, fileBytes, encodeTable, entryBytes, encodeRecord, encodeHeader}
 use Rattle.sector.specs.Decoding.{clientsIn, fileCountIn, decodeFiles, decodeTable, countIn, decodeEntries, decodeRecord, spareIn, decodeHeader}
 use Rattle.sector.specs.Encoded.{isTableEncoding, isRecordEncoding, isHeaderEncoding, allZero, hasMark, framed, headersFollow, tableFramed, headersIn, entriesClosed}
-use Rattle.lists.proofs.ListLaws.{same-equal, same_refl, same_self, same-append, same-take}
+use Rattle.lists.proofs.ListLaws.{same-equal, same-refl, same-self, same-append, same-take}
 use Rattle.lists.proofs.CaseLaws.{by-test}
 use Rattle.sector.proofs.CodecLaws.{files-length, decode-files-length, entries-length, decode-entries-length, header-spare, decoded-map}
 
@@ -90,19 +90,19 @@ entries-same (suc n) l z h =
     let m : 4 * suc n ≡ 4 + 4 * n = omega arith in
     let rest = entries-same n (drop 4 l) z (rw (length-drop 4 l) (omega arith)) in
     ap (λ (x : Bytes). same x (entryBytes (decodeEntries (suc n) l) ++ z)) (four-from l 0 (omega arith))
-    ∙ rw (same_self (byte l 0) _, same_self (byte l 1) _, same_self (byte l 2) _, rest, m, ← drop-drop (4 * n) 4 l)
+    ∙ rw (same-self (byte l 0) _, same-self (byte l 1) _, same-self (byte l 2) _, rest, m, ← drop-drop (4 * n) 4 l)
     (sym (and_assoc (eqb (byte l 3) 0) _ _))
 
 module _ (d : Bytes) (len : length d ≡ 256) where
-  pub record_is : (n : ℕ) → n ≡ countIn d → n ≤ entryLimit
+  pub record-is : (n : ℕ) → n ≡ countIn d → n ≤ entryLimit
       → isRecordEncoding d ≡ all (framed recordMark (countOffset + 1) (itemOffset n) d ∷ entriesClosed n (drop itemsOffset d) ∷ [])
   unfolding decodeRecord encodeRecord
-  record_is n q few =
+  record-is n q few =
       let l : Bytes = drop 8 d in
       let m : length (drop (itemOffset n) d) ≡ 248 - 4 * n = length-drop (itemOffset n) d ∙ omega arith in
       rw (← q, decode-entries-length n l)
       (control-is d recordMark (byte d 2 ∷ n ∷ []) (entryBytes (decodeEntries n l)) (itemOffset n) (entriesClosed n l) len (omega arith)
-      (rw (four-from d 2 (omega arith), q) (same_refl (byte d 2 ∷ byte d 3 ∷ [])))
+      (rw (four-from d 2 (omega arith), q) (same-refl (byte d 2 ∷ byte d 3 ∷ [])))
       (λ z. entries-same n l z (rw (length-drop 8 d) (omega arith)) ∙ rw (drop-drop (4 * n) 8 d))
       (omega (arith, entries-length (decodeEntries n l), decode-entries-length n l)))
 
@@ -128,14 +128,14 @@ files-same (suc n) h l z le =
     let m : 4 * suc n ≡ 4 + 4 * n = omega arith in
     let rest = files-same n (h + 1 + byte l 3) (drop 4 l) z (rw (length-drop 4 l) (omega arith)) in
     ap (λ (x : Bytes). same x (fileBytes h (decodeFiles (suc n) l) ++ z)) (four-from l 0 (omega arith))
-    ∙ rw (same_self (byte l 2) _, same_self (byte l 3) _, rest, m, ← drop-drop (4 * n) 4 l)
+    ∙ rw (same-self (byte l 2) _, same-self (byte l 3) _, rest, m, ← drop-drop (4 * n) 4 l)
     (sym (and_assoc (eqb (byte l 0) (h % 256) && eqb (byte l 1) (h / 256)) _ _ ∙ and_assoc (eqb (byte l 0) (h % 256)) _ _))
 
 module _ (d : Bytes) (len : length d ≡ 256) where
-  pub table_is : fileCountIn d ≤ entryLimit → byte d sectorsOffset < 256
+  pub table-is : fileCountIn d ≤ entryLimit → byte d sectorsOffset < 256
       → isTableEncoding d ≡ all (tableFramed d ∷ headersIn (firstHeader (clientsIn d)) d ∷ [])
   unfolding decodeTable encodeTable
-  table_is few small =
+  table-is few small =
       let n : ℕ = fileCountIn d in
       let k : ℕ = clientsIn d in
       let l : Bytes = drop 8 d in
@@ -144,7 +144,7 @@ module _ (d : Bytes) (len : length d ≡ 256) where
       let high : word d 2 / 256 ≡ byte d 3 = omega arith in
       rw (decode-files-length n l, low, high)
       (control-is d tableMark (byte d 2 ∷ byte d 3 ∷ k ∷ n ∷ []) (fileBytes (k + 1) (decodeFiles n l)) (itemOffset n) (headersFollow n (k + 1) l) len (omega arith)
-      (rw (four-from d 2 (omega arith)) (same_refl (byte d 2 ∷ byte d 3 ∷ byte d 4 ∷ byte d 5 ∷ [])))
+      (rw (four-from d 2 (omega arith)) (same-refl (byte d 2 ∷ byte d 3 ∷ byte d 4 ∷ byte d 5 ∷ [])))
       (λ z. files-same n (k + 1) l z (rw (length-drop 8 d) (omega arith)) ∙ rw (drop-drop (4 * n) 8 d))
       (omega (arith, files-length (k + 1) (decodeFiles n l), decode-files-length n l)))
 
@@ -157,16 +157,16 @@ module _ (x : File) (d : Bytes) (len : length d ≡ 256) (few : x.pages ≤ item
       left : isHeaderEncoding x d ≡ true → spareIn d ≡ x.slots - x.pages
       left e = ap spareIn (same-equal d _ e) ∙ header-spare x (decodeHeader x d) ∙ ap (λ (n : ℕ). x.slots - n) (decoded-map x d len few)
 
-  pub header_is : spareIn d ≡ x.slots - x.pages → isHeaderEncoding x d ≡ framed headerMark (spareOffset + 1) (itemsOffset + x.pages) d
+  pub header-is : spareIn d ≡ x.slots - x.pages → isHeaderEncoding x d ≡ framed headerMark (spareOffset + 1) (itemsOffset + x.pages) d
   unfolding decodeHeader encodeHeader all
-  header_is left =
+  header-is left =
       let l : Bytes = drop 8 d in
       let P : ℕ = x.pages in
       let n : length (take P l) ≡ P = length-take-le P l (rw (length-drop 8 d) (omega arith)) in
       let rest : length (drop (8 + P) d) ≡ 248 - P = length-drop (8 + P) d ∙ omega arith in
       rw (n, ← left)
       (control-is d headerMark (byte d 2 ∷ byte d 3 ∷ []) (take P l) (8 + P) true len (omega arith)
-      (rw (four-from d 2 (omega arith)) (same_refl (byte d 2 ∷ byte d 3 ∷ [])))
+      (rw (four-from d 2 (omega arith)) (same-refl (byte d 2 ∷ byte d 3 ∷ [])))
       (λ z. same-take P l z ∙ rw (drop-drop P 8 d)) (omega arith)
       ∙ and-true _)
 

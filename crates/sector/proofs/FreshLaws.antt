@@ -9,11 +9,11 @@ use lib.ListN.{length, drop, set}
 use Rattle.lists.specs.Lists.{from}
 use Rattle.sector.specs.Layout.{markByte, tableMark, headerMark, itemsOffset, itemsRoom, itemOffset, spareOffset, fileLimit}
 use Rattle.sector.specs.Contents.{Bytes, File, newHeader}
-use Rattle.sector.specs.Sectors.{word_bytes, zeroSector, padded}
+use Rattle.sector.specs.Sectors.{wordBytes, zeroSector, padded}
 use Rattle.sector.specs.Encoding.{fileBytes, encodeTable, encodeHeader}
 use Rattle.lists.proofs.SearchLaws.{from-length}
 use Rattle.sector.proofs.CodecLaws.{files-length}
-use Rattle.sector.specs.Shapes.{files_of, pair_at}
+use Rattle.sector.specs.Shapes.{filesOf, pairAt}
 use Rattle.sector.specs.Puts.{Puts}
 use Rattle.sector.proofs.PutsLaws.{puts-more, puts-byte}
 use Rattle.sector.proofs.ShapeLaws.{files-count, files-from}
@@ -28,22 +28,22 @@ entry-put at x y z w b =
     (puts-more (at + 2) (at + 3) (z ∷ []) (w ∷ []) _ _ _ (omega arith) (puts-byte (at + 2) z _) (puts-byte (at + 3) w _)))
 
 pub entries-turn : (l : Bytes) (i h : ℕ) (b c : Bytes) → i < length l / 2
-    → Puts (itemOffset i) (word_bytes h ((pair_at l i).pages ∷ (pair_at l i).slots ∷ [])) b c
-    → (w : Bytes) → Puts (itemOffset (i + 1)) (fileBytes (h + 1 + (pair_at l i).slots) (drop (i + 1) (files_of l))) c w
-    → Puts (itemOffset i) (fileBytes h (drop i (files_of l))) b w
+    → Puts (itemOffset i) (wordBytes h ((pairAt l i).pages ∷ (pairAt l i).slots ∷ [])) b c
+    → (w : Bytes) → Puts (itemOffset (i + 1)) (fileBytes (h + 1 + (pairAt l i).slots) (drop (i + 1) (filesOf l))) c w
+    → Puts (itemOffset i) (fileBytes h (drop i (filesOf l))) b w
 unfolding fileBytes
 entries-turn l i h b c lt one w rest =
     rw (files-from l i lt) (puts-more (itemOffset i) (itemOffset (i + 1)) _ _ b c w (omega arith) one rest)
 
-pub table-built : (N T F : ℕ) (l w : Bytes) → F ≡ length (files_of l) → length l ≤ 2 * fileLimit
-    → Puts itemsOffset (fileBytes (T + 1) (files_of l)) (set (set (set (set (set (set zeroSector 0 markByte) 1 tableMark) 2 (N % 256)) 3 (N / 256)) 4 T) 5 F) w
-    → w ≡ encodeTable (record { sectors = N; clients = T; files = files_of l })
+pub table-built : (N T F : ℕ) (l w : Bytes) → F ≡ length (filesOf l) → length l ≤ 2 * fileLimit
+    → Puts itemsOffset (fileBytes (T + 1) (filesOf l)) (set (set (set (set (set (set zeroSector 0 markByte) 1 tableMark) 2 (N % 256)) 3 (N / 256)) 4 T) 5 F) w
+    → w ≡ encodeTable (record { sectors = N; clients = T; files = filesOf l })
 unfolding zeroSector Puts encodeTable padded
 table-built N T F l w e few x =
-    let d : Bytes = fileBytes (T + 1) (files_of l) in
+    let d : Bytes = fileBytes (T + 1) (filesOf l) in
     let head : Bytes = markByte ∷ tableMark ∷ N % 256 ∷ N / 256 ∷ T ∷ F ∷ 0 ∷ 0 ∷ [] in
     let n : ℕ = 256 - length (head ++ d) in
-    let all : length d + n ≡ 248 = omega (arith, files-length (T + 1) (files_of l), files-count l) in
+    let all : length d + n ≡ 248 = omega (arith, files-length (T + 1) (filesOf l), files-count l) in
     rw (← e) (x head n refl (rw all))
 
 -- ------------------------------------------------------------------ a header

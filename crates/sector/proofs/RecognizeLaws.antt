@@ -14,14 +14,14 @@ use Rattle.sector.specs.Layout.{markByte, itemOffset, slotsOffset, zeroOffset}
 use Rattle.sector.specs.Contents.{Bytes}
 use Rattle.sector.specs.Sectors.{byte, word}
 use Rattle.sector.specs.Encoded.{allZero, hasMark, headersFollow, entriesClosed}
-use Rattle.lists.proofs.ListLaws.{and_left, and_right, and_both}
+use Rattle.lists.proofs.ListLaws.{and-left, and-right, and-both}
 use Rattle.lists.proofs.TestLaws.{iff, or-zero, drop-next}
 
 -- ------------------------------------------------------------------ zero bytes: `bits` is the or of those before i
 module _ (l : Bytes) (w : Bool) (bits i : ℕ) (q : w ≡ (eqb bits 0 && allZero (drop i l))) where
-  pub zero_more : i < length l → w ≡ (eqb (bit_or bits (get_or l i 0)) 0 && allZero (drop (i + 1) l))
+  pub zero-more : i < length l → w ≡ (eqb (bit_or bits (get_or l i 0)) 0 && allZero (drop (i + 1) l))
   unfolding allZero
-  zero_more h = q ∙ rw (drop-next l i 0 h, or-zero bits (get_or l i 0)) (sym (and_assoc (eqb bits 0) _ _))
+  zero-more h = q ∙ rw (drop-next l i 0 h, or-zero bits (get_or l i 0)) (sym (and_assoc (eqb bits 0) _ _))
 
   pub zero-done : length l ≤ i → w ≡ eqb bits 0
   unfolding allZero
@@ -49,14 +49,14 @@ word-is a b h small = iff _ _ to back
   where
     to : (eqb a (h % 256) && eqb b (h / 256)) ≡ true → eqb (a + 256 * b) h ≡ true
     to e =
-        let low : a ≡ h % 256 = eqb-true _ _ (and_left (eqb a (h % 256)) _ e) in
-        let high : b ≡ h / 256 = eqb-true _ _ (and_right (eqb a (h % 256)) _ e) in
+        let low : a ≡ h % 256 = eqb-true _ _ (and-left (eqb a (h % 256)) _ e) in
+        let high : b ≡ h / 256 = eqb-true _ _ (and-right (eqb a (h % 256)) _ e) in
         eq-eqb (a + 256 * b) h (omega arith)
 
     back : eqb (a + 256 * b) h ≡ true → (eqb a (h % 256) && eqb b (h / 256)) ≡ true
     back e =
         let q : a + 256 * b ≡ h = eqb-true _ _ e in
-        and_both _ _ (eq-eqb a (h % 256) (omega arith)) (eq-eqb b (h / 256) (omega arith))
+        and-both _ _ (eq-eqb a (h % 256) (omega arith)) (eq-eqb b (h / 256) (omega arith))
 
 -- So a mark is one number.
 pub mark-is : (d : Bytes) (second : ℕ) → byte d 0 < 256 → eqb (word d 0) (markByte + 256 * second) ≡ hasMark second d

@@ -7,11 +7,11 @@ use mathlib.Core.Option.{none, some}
 use Prim.Native.Nat.{ℕ}
 use lib.Dec.{eqb, ltb}
 use lib.ListN.{replicate, set}
-use Rattle.lists.specs.Lists.{if◌then◌else◌, between, all, first, every, any, filter, find, is_some, distinct, member, same, from}
+use Rattle.lists.specs.Lists.{if◌then◌else◌, between, all, first, every, any, filter, find, isSome, distinct, member, same, from}
 use Rattle.sector.specs.Layout.{sectorLimit, clientLimit, fileLimit, pageLimit, slotLimit, entryLimit}
 use Rattle.sector.specs.Contents.{Bytes, File, Table, Entry, Record, Header, firstHeader, nextHeader, spareSlots, isIdle, isOpen, isDecidedRecord, idleRecord, openRecord, decidedRecord, appended}
 use Rattle.sector.specs.Entries.{forFile, forPage, givesSlot, redone, pagesBelow, filePagesBelow}
-use Rattle.sector.specs.Sectors.{sector, storeAt, byte, word, word_bytes, padded, zeroSector}
+use Rattle.sector.specs.Sectors.{sector, storeAt, byte, word, wordBytes, padded, zeroSector}
 use Rattle.sector.specs.Encoding.{fileBytes, encodeTable, entryBytes, encodeRecord, headerWith, encodeHeader}
 use Rattle.sector.specs.Decoding.{sectorsIn, clientsIn, fileCountIn, headerSectorIn, fileIn, decodeFiles, decodeTable, stateIn, countIn, entryIn, decodeEntries, decodeRecord, holderIn, spareIn, mapIn, decodeHeader}
 use Rattle.sector.specs.Encoded.{isTableEncoding, isRecordEncoding, isHeaderEncoding, hasMark, hasHeaderMark}
@@ -43,8 +43,8 @@ first-test = refl
 abbrev low : ℕ → Bool
 low n = ltb n 3
 
-every_one : map (every low) ([] ∷ (1 ∷ 2 ∷ []) ∷ (3 ∷ 1 ∷ []) ∷ (1 ∷ 3 ∷ []) ∷ []) ≡ true ∷ true ∷ false ∷ false ∷ []
-every_one = refl
+every-one : map (every low) ([] ∷ (1 ∷ 2 ∷ []) ∷ (3 ∷ 1 ∷ []) ∷ (1 ∷ 3 ∷ []) ∷ []) ≡ true ∷ true ∷ false ∷ false ∷ []
+every-one = refl
 
 any-one : map (any low) ([] ∷ (4 ∷ 3 ∷ []) ∷ (1 ∷ 3 ∷ []) ∷ (3 ∷ 1 ∷ []) ∷ []) ≡ false ∷ false ∷ true ∷ true ∷ []
 any-one = refl
@@ -54,10 +54,10 @@ filtered : filter low (2 ∷ 4 ∷ 1 ∷ 3 ∷ 2 ∷ []) ≡ 2 ∷ 1 ∷ 2 ∷ [
 filtered = refl
 
 -- The first of those that fit.
-found_first : map (find low) ((4 ∷ 2 ∷ 1 ∷ []) ∷ (4 ∷ 3 ∷ []) ∷ [] ∷ []) ≡ some 2 ∷ none ∷ none ∷ []
-found_first = refl
+found-first : map (find low) ((4 ∷ 2 ∷ 1 ∷ []) ∷ (4 ∷ 3 ∷ []) ∷ [] ∷ []) ≡ some 2 ∷ none ∷ none ∷ []
+found-first = refl
 
-there-is-one : map is_some (some true ∷ none ∷ []) ≡ true ∷ false ∷ []
+there-is-one : map isSome (some true ∷ none ∷ []) ≡ true ∷ false ∷ []
 there-is-one = refl
 
 -- Each is compared with every later one, not with its neighbour alone; the earlier one comes first in the test.
@@ -70,10 +70,10 @@ members : map (λ x. member x (4 ∷ 2 ∷ [])) (2 ∷ 3 ∷ 4 ∷ []) ≡ true 
 members = refl
 
 -- Lists of which one begins with the other are not the same.
-same_lists : same [] [] ∷ same [] (1 ∷ []) ∷ same (1 ∷ []) [] ∷ same (1 ∷ 2 ∷ []) (1 ∷ 2 ∷ []) ∷ same (1 ∷ 2 ∷ []) (1 ∷ 3 ∷ [])
+same-lists : same [] [] ∷ same [] (1 ∷ []) ∷ same (1 ∷ []) [] ∷ same (1 ∷ 2 ∷ []) (1 ∷ 2 ∷ []) ∷ same (1 ∷ 2 ∷ []) (1 ∷ 3 ∷ [])
     ∷ same (1 ∷ 2 ∷ []) (3 ∷ 2 ∷ []) ∷ []
     ≡ true ∷ false ∷ false ∷ true ∷ false ∷ false ∷ []
-same_lists = refl
+same-lists = refl
 
 numbers-from : from 3 2 ++ from 1 0 ≡ 3 ∷ 4 ∷ []
 numbers-from = refl
@@ -102,7 +102,7 @@ bytes = refl
 low-byte-first : word (0xFF ∷ 0x0B ∷ 0x01 ∷ []) 1 ≡ 267
 low-byte-first = refl
 
-low-byte-written-first : word_bytes 267 (9 ∷ []) ∷ word_bytes 1024 [] ∷ [] ≡ (0x0B ∷ 0x01 ∷ 9 ∷ []) ∷ (0x00 ∷ 0x04 ∷ []) ∷ []
+low-byte-written-first : wordBytes 267 (9 ∷ []) ∷ wordBytes 1024 [] ∷ [] ≡ (0x0B ∷ 0x01 ∷ 9 ∷ []) ∷ (0x00 ∷ 0x04 ∷ []) ∷ []
 low-byte-written-first = refl
 
 -- "A control sector's bytes not named here are 00", up to 256 bytes in all.
@@ -261,9 +261,9 @@ header-written : encodeHeader twoPages held ≡ headerBytes 0
 unfolding encodeHeader padded
 header-written = refl
 
-header_read : decodeHeader twoPages (headerBytes 9) ≡ held
+header-read : decodeHeader twoPages (headerBytes 9) ≡ held
 unfolding decodeHeader padded
-header_read = refl
+header-read = refl
 
 header-fields : holderIn (headerBytes 9) ∷ spareIn (headerBytes 9) ∷ mapIn (headerBytes 9) 0 ∷ mapIn (headerBytes 9) 1 ∷ []
     ≡ 3 ∷ 4 ∷ 5 ∷ 1 ∷ []

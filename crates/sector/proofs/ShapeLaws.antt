@@ -6,16 +6,16 @@ use native.Mathlib.Nat.{not-suc-le-zero}
 use native.Mathlib.Omega.{arith}
 use lib.ListN.{length, drop, drop_of_length-le}
 use Rattle.sector.specs.Contents.{Bytes}
-use Rattle.sector.specs.Shapes.{files_of, pair_at}
+use Rattle.sector.specs.Shapes.{filesOf, pairAt}
 
-pub files-count : (l : Bytes) → length (files_of l) ≡ length l / 2
-unfolding files_of
+pub files-count : (l : Bytes) → length (filesOf l) ≡ length l / 2
+unfolding filesOf
 files-count [] = refl
 files-count (p ∷ []) = refl
 files-count (p ∷ r ∷ l) = omega (arith, files-count l)
 
-pub files-from : (l : Bytes) (i : ℕ) → i < length l / 2 → drop i (files_of l) ≡ pair_at l i ∷ drop (i + 1) (files_of l)
-unfolding files_of
+pub files-from : (l : Bytes) (i : ℕ) → i < length l / 2 → drop i (filesOf l) ≡ pairAt l i ∷ drop (i + 1) (filesOf l)
+unfolding filesOf
 files-from [] i h = absurd (not-suc-le-zero {n = 0} (omega arith))
 files-from (p ∷ []) i h = absurd (not-suc-le-zero {n = 0} (omega arith))
 files-from (p ∷ r ∷ l) zero h = refl
@@ -25,5 +25,5 @@ files-from (p ∷ r ∷ l) (suc i) h =
     let e2 : suc i + 1 ≡ suc (i + 1) = omega arith in
     rw (e, e1, e2) (files-from l i (omega arith))
 
-pub files-end : (l : Bytes) (i : ℕ) → length l / 2 ≤ i → drop i (files_of l) ≡ []
-files-end l i h = drop_of_length-le (files_of l) {i = i} (rw (files-count l) h)
+pub files-end : (l : Bytes) (i : ℕ) → length l / 2 ≤ i → drop i (filesOf l) ≡ []
+files-end l i h = drop_of_length-le (filesOf l) {i = i} (rw (files-count l) h)

@@ -3,9 +3,9 @@ ghost use Rattle.std.specs.Prelude.{◌≡◌, [], ◌∷◌, ◌+◌, ◌*◌, 
 ghost use Rattle.lists.specs.Lists.{from};
 ghost use Rattle.sector.specs.Layout.{itemsOffset, itemsRoom, itemLength, fileLimit};
 ghost use Rattle.sector.specs.Contents.{File, newHeader};
-ghost use Rattle.sector.specs.Sectors.{word_bytes, zeroSector};
+ghost use Rattle.sector.specs.Sectors.{wordBytes, zeroSector};
 ghost use Rattle.sector.specs.Encoding.{fileBytes, encodeTable, encodeRecord, encodeHeader};
-ghost use Rattle.sector.specs.Shapes.{files_of, pair_at};
+ghost use Rattle.sector.specs.Shapes.{filesOf, pairAt};
 ghost use Rattle.sector.specs.Puts.{Puts};
 
 use crate::layout::{Offset, Sector};
@@ -22,7 +22,7 @@ fn high(n: usize) -> u8
 // A file's entry in the table, from byte `at` on.
 fn put_entry(buf: &mut [u8; 256], at: usize, header: usize, pages: u8, slots: u8)
     requires { (length buf.old ≡ 256) × (at + itemLength ≤ 256) × (header < 65536) }
-    ensures puts { Puts at (word_bytes header (pages ∷ slots ∷ [])) buf.old buf.new }
+    ensures puts { Puts at (wordBytes header (pages ∷ slots ∷ [])) buf.old buf.new }
     ensures buf_len { length buf.new ≡ 256 }
 {
     buf[at] = low(header);
@@ -34,7 +34,7 @@ fn put_entry(buf: &mut [u8; 256], at: usize, header: usize, pages: u8, slots: u8
 // The entries of all files in the table; the header of the first one is sector `first`.
 fn put_entries(buf: &mut [u8; 256], first: usize, shape: &[u8])
     requires { (length buf.old ≡ 256) × (first ≤ 256) × (length shape.now ≤ 2 * fileLimit) }
-    ensures puts { Puts itemsOffset (fileBytes first (files_of shape.now)) buf.old buf.new }
+    ensures puts { Puts itemsOffset (fileBytes first (filesOf shape.now)) buf.old buf.new }
     ensures buf_len { length buf.new ≡ 256 }
 {
     let n = shape.len() / 2;
@@ -57,7 +57,7 @@ fn put_entries(buf: &mut [u8; 256], first: usize, shape: &[u8])
 // The table, made of zeros.
 pub fn new_table(buf: &mut [u8; 256], sectors: usize, clients: u8, shape: &[u8])
     requires { (buf.old ≡ zeroSector) × (sectors < 65536) × (length shape.now ≤ 2 * fileLimit) }
-    ensures buf_after { buf.new ≡ encodeTable (record { sectors = sectors; clients = clients; files = files_of shape.now }) }
+    ensures buf_after { buf.new ≡ encodeTable (record { sectors = sectors; clients = clients; files = filesOf shape.now }) }
     ensures buf_len { length buf.new ≡ 256 }
 {
     buf[0] = Sector::MARK;
@@ -84,8 +84,8 @@ pub fn empty_record(buf: &mut [u8; 256], state: u8)
 // slots above the last page's are left.
 pub fn new_header(buf: &mut [u8; 256], shape: &[u8], i: usize)
     requires { (buf.old ≡ zeroSector) × (length shape.now ≤ 2 * fileLimit) × (i < length shape.now / 2)
-        × ((pair_at shape.now i).pages ≤ itemsRoom) × ((pair_at shape.now i).pages ≤ (pair_at shape.now i).slots) }
-    ensures buf_after { buf.new ≡ encodeHeader (pair_at shape.now i) (newHeader (pair_at shape.now i)) }
+        × ((pairAt shape.now i).pages ≤ itemsRoom) × ((pairAt shape.now i).pages ≤ (pairAt shape.now i).slots) }
+    ensures buf_after { buf.new ≡ encodeHeader (pairAt shape.now i) (newHeader (pairAt shape.now i)) }
     ensures buf_len { length buf.new ≡ 256 }
 {
     buf[0] = Sector::MARK;

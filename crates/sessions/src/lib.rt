@@ -1,4 +1,5 @@
 // A session's marks and reading holds, and whether they fit the volume: what refusal 2 asks.
+#![tactic(auto)]
 mod holds;
 mod holds_fit;
 mod marks;

@@ -12,8 +12,8 @@ use lib.ListN.{get_elem?}
 use Rattle.lists.specs.Lists.{any, filter, member, from}
 use Rattle.sector.specs.Contents.{Entry}
 use Rattle.sector.specs.Entries.{givesSlot}
-use Rattle.lists.proofs.ListLaws.{or_right}
-use Rattle.lists.proofs.SearchLaws.{none-some, first-append, filter-both, filter_none, filter-first}
+use Rattle.lists.proofs.ListLaws.{or-right}
+use Rattle.lists.proofs.SearchLaws.{none-some, first-append, filter-both, filter-none, filter-first}
 use Rattle.lists.proofs.TestLaws.{not-or}
 use Rattle.volume.specs.Places.{fileAt}
 use Rattle.volume.specs.Views.{View}
@@ -34,15 +34,15 @@ pub record EntryAt (o : Option Entry) (r : ℕ) : Type 0 where
   pub found : o ≡ some entry
   pub slot : entry.slot ≡ r
 
-pub entry_at : (o : Option Entry) (r : ℕ) → some r ≡ entrySlot o → EntryAt o r
+pub entry-at : (o : Option Entry) (r : ℕ) → some r ≡ entrySlot o → EntryAt o r
 unfolding entrySlot
-entry_at none r e = none-some r (sym e)
-entry_at (some x) r e = record { entry = x; found = refl; slot = cc }
+entry-at none r e = none-some r (sym e)
+entry-at (some x) r e = record { entry = x; found = refl; slot = cc }
 
 -- ------------------------------------------------------------------ the free slots
 -- A slot from `start` on that is not in the set is one that the search doesn't pass over.
-from_start : (start y : ℕ) (s : List ℕ) → (leb start y && not (hasByte s y)) ≡ not (passesOver start s y)
-from_start start y s = go (hasByte s y) (ltb y start) refl
+from-start : (start y : ℕ) (s : List ℕ) → (leb start y && not (hasByte s y)) ≡ not (passesOver start s y)
+from-start start y s = go (hasByte s y) (ltb y start) refl
   where
     go : (b c : Bool) → ltb y start ≡ c → (leb start y && not b) ≡ not (b || c)
     go true c e = and-false (leb start y)
@@ -50,8 +50,8 @@ from_start start y s = go (hasByte s y) (ltb y start) refl
     go false false e = rw (le-leb start y (ltb-false y start e))
 
 -- A search from 0 on passes over what is in the set.
-from_zero : (y : ℕ) (s : List ℕ) → passesOver 0 s y ≡ hasByte s y
-from_zero y s = rw (le-ltb y 0 zero-le) (or-false (hasByte s y))
+from-zero : (y : ℕ) (s : List ℕ) → passesOver 0 s y ≡ hasByte s y
+from-zero y s = rw (le-ltb y 0 zero-le) (or-false (hasByte s y))
 
 -- Where the set s has the slots of the map, and t those that are given too, the slots that are not in t are free. r is what a
 -- search from `start` on finds of them, and q one from 0 on.
@@ -79,21 +79,21 @@ module _ (a : View) (k f : ℕ) (s t : List ℕ) (mapped : (y : ℕ) → hasByte
 
   pub free-above : r < n → some r ≡ get_elem? (triedFrom (startFor a f p) (freeSlots a k f)) 0
   free-above h = sym (rw are-tried (first-append (filter up (from 0 n)) (filter down (from 0 n)) r
-      (filter-first up n 0 r (omega arith) (omega arith) (λ y lo hi. from_start start y t ∙ ap not (high.1 y hi))
-      (from_start start r t ∙ ap not (high.2 h)))))
+      (filter-first up n 0 r (omega arith) (omega arith) (λ y lo hi. from-start start y t ∙ ap not (high.1 y hi))
+      (from-start start r t ∙ ap not (high.2 h)))))
 
   module _ (q : ℕ) (low : LowestFailing (passesOver 0 t) n q) (end : n ≤ r) where
-    none_above : filter up (from 0 n) ≡ []
-    none_above = filter_none up n 0 (λ y lo hi. from_start start y t ∙ ap not (high.1 y (omega arith)))
+    none-above : filter up (from 0 n) ≡ []
+    none-above = filter-none up n 0 (λ y lo hi. from-start start y t ∙ ap not (high.1 y (omega arith)))
 
     taken : (y : ℕ) → y < q → down y ≡ false
-    taken y h = rw (sym (from_zero y t) ∙ low.1 y h) (and-false (ltb y start))
+    taken y h = rw (sym (from-zero y t) ∙ low.1 y h) (and-false (ltb y start))
 
     pub free-again : q < n → some q ≡ get_elem? (triedFrom (startFor a f p) (freeSlots a k f)) 0
     free-again h =
-        let free : hasByte t q ≡ false = sym (from_zero q t) ∙ low.2 h in
-        let before : ltb q start ≡ true = or_right (hasByte t q) (ltb q start) (high.1 q (omega arith)) free in
-        sym (rw (are-tried, none_above) (filter-first down n 0 q (omega arith) (omega arith) (λ y lo hi. taken y hi) (rw (before, free))))
+        let free : hasByte t q ≡ false = sym (from-zero q t) ∙ low.2 h in
+        let before : ltb q start ≡ true = or-right (hasByte t q) (ltb q start) (high.1 q (omega arith)) free in
+        sym (rw (are-tried, none-above) (filter-first down n 0 q (omega arith) (omega arith) (λ y lo hi. taken y hi) (rw (before, free))))
 
     pub free-none : n ≤ q → none ≡ get_elem? (triedFrom (startFor a f p) (freeSlots a k f)) 0
-    free-none h = rw (are-tried, none_above, filter_none down n 0 (λ y lo hi. taken y (omega arith)))
+    free-none h = rw (are-tried, none-above, filter-none down n 0 (λ y lo hi. taken y (omega arith)))

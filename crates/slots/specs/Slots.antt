@@ -6,9 +6,9 @@ use Rattle.slots.specs.declared.Found.{Found}
 use Rattle.slots.specs.declared.Found.TheVariants.{Slot, Nothing}
 
 -- The slot, if there is one.
-abbrev pub slot_of : Found → Option ℕ
-slot_of (Slot r) = some r
-slot_of Nothing = none
+abbrev pub slotOf : Found → Option ℕ
+slotOf (Slot r) = some r
+slotOf Nothing = none
 
 -- The slot of an entry that was found.
 unfoldable pub entrySlot : Option Entry → Option ℕ

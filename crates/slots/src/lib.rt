@@ -1,4 +1,5 @@
 // Where a page lies, for a client that reads it and for a look; and the free slot that a new page takes.
+#![tactic(auto)]
 ghost use Rattle.std.specs.Prelude.{◌≡◌, true, ◌||◌, ℕ, length, get_or};
 ghost use Rattle.std.proofs.Math.ListN.{get_elem?};
 ghost use Rattle.lists.specs.Lists.{any, member};
@@ -12,7 +13,7 @@ ghost use Rattle.volume.specs.WellFormed.{WellFormed, HasEntry, noEntry};
 ghost use Rattle.byteset.specs.Set.{hasByte};
 ghost use Rattle.rules.specs.Plans.{entryFor, freeSlots, startFor, triedFrom, slotFor};
 ghost use Rattle.rules.specs.Content.{decidedSlot};
-ghost use Rattle.slots.specs.Slots.{slot_of, entrySlot};
+ghost use Rattle.slots.specs.Slots.{slotOf, entrySlot};
 
 use byteset::{add, lowest_missing};
 use sector::State;
@@ -38,7 +39,7 @@ fn is_for_page(v: &[u8], k: u8, i: usize, f: u8, p: u8) -> bool
 // The slot that record k has for page p of file f.
 pub fn find_entry(v: &[u8], k: u8, f: u8, p: u8) -> Found
     requires { WellFormed v.now × IsClient (view v.now).table k }
-    ensures { slot_of result ≡ entrySlot (entryFor (view v.now) k f p) }
+    ensures { slotOf result ≡ entrySlot (entryFor (view v.now) k f p) }
 {
     let n = sector::wide(volume::entry_count(v, k));
     let mut i = 0;
@@ -93,7 +94,7 @@ fn take_given(v: &[u8], k: u8, f: u8, taken: &mut [u64; 4])
 // round (`must-fail/lowest_slot`, `two_above`, `above_another_page`, `not_round`).
 pub fn free_slot(v: &[u8], k: u8, f: u8, p: u8) -> Found
     requires { WellFormed v.now × IsClient (view v.now).table k × IsPage (view v.now).table f p }
-    ensures { slot_of result ≡ get_elem? (triedFrom (startFor (view v.now) f p) (freeSlots (view v.now) k f)) 0 }
+    ensures { slotOf result ≡ get_elem? (triedFrom (startFor (view v.now) f p) (freeSlots (view v.now) k f)) 0 }
 {
     let mut taken = [0u64; 4];
     take_mapped(v, f, &mut taken);

@@ -15,14 +15,14 @@ use Rattle.lists.specs.Lists.{all, every, from}
 use Rattle.sector.specs.Contents.{Bytes, Table}
 use Rattle.sector.specs.Sectors.{sector}
 use Rattle.sector.specs.Decoding.{sectorsIn, clientsIn, fileCountIn, headerSectorIn, decodeTable}
-use Rattle.lists.proofs.ListLaws.{and_left, and_right, and_both, all-at, every-from}
-use Rattle.lists.proofs.TestLaws.{iff, all-no, all_of, all-last, every-both, none, ◌also◌, final, ◌then◌}
+use Rattle.lists.proofs.ListLaws.{and-left, and-right, and-both, all-at, every-from}
+use Rattle.lists.proofs.TestLaws.{iff, all-no, all-of, all-last, every-both, none, ◌also◌, final, ◌then◌}
 use Rattle.sector.proofs.CodecLaws.{decoded-files}
 use Rattle.volume.specs.Places.{clientNumbers, fileNumbers, fileAt, headerSector, endSector, Place, recordPlace, headerPlace}
 use Rattle.volume.specs.Lawful.{tableFits, recordFits, headerFits, lawful}
-use Rattle.volume.specs.Volumes.{Volume, table_of, bytes_at, recordIn, headerIn, view}
+use Rattle.volume.specs.Volumes.{Volume, tableOf, bytesAt, recordIn, headerIn, view}
 use Rattle.volume.specs.Sound.{encoded, canonical, sound, tableSoundIn}
-use Rattle.volume.proofs.PlaceLaws.{IsFile, is-client, is-file, end_low, file-ends}
+use Rattle.volume.proofs.PlaceLaws.{IsFile, is-client, is-file, end-low, file-ends}
 use Rattle.volume.proofs.LawfulLaws.{file-facts}
 use Rattle.sector.specs.Encoded.{isTableEncoding, isRecordEncoding, isHeaderEncoding}
 use Rattle.table_test.specs.Table.{tableSound}
@@ -57,7 +57,7 @@ module _ (v tb : Bytes) (ok : tableSound tb ≡ true) (sized : length v ≡ 256 
   ends = rw (sectors-are tb) at (facts tb ok).ends
 
   pub records-inside : 256 * clientsIn tb + 256 ≤ length v
-  records-inside = omega (arith, end_low t, clients-are tb, ends, sized)
+  records-inside = omega (arith, end-low t, clients-are tb, ends, sized)
 
   -- With the records tested too, all that the tests of the headers ask for.
   pub tested : length tb ≡ 256 → every (recordSoundIn t v) (from 1 (clientsIn tb)) ≡ true → Tested v tb
@@ -67,8 +67,8 @@ module _ (v tb : Bytes) (ok : tableSound tb ≡ true) (sized : length v ≡ 256 
     files = few-files tb ok;
     short = omega (arith, (facts tb ok).size, sectors-are tb, sized);
     records = records-inside;
-    headers = λ f lo hi. omega (arith, header_is f lo hi, file-ends t f (is f lo hi), ends, sized);
-    header_is = header_is;
+    headers = λ f lo hi. omega (arith, header-is f lo hi, file-ends t f (is f lo hi), ends, sized);
+    header-is = header-is;
     pages = λ f lo hi. rw (file-is tb f lo hi) at (file-facts (facts tb ok) f (is f lo hi)).few;
     slots = λ f lo hi. rw (file-is tb f lo hi) at (file-facts (facts tb ok) f (is f lo hi)).room;
     counts = λ k lo hi. sound-count t _ (every-from (recordSoundIn t v) (clientsIn tb) 1 e k lo (omega arith));
@@ -77,8 +77,8 @@ module _ (v tb : Bytes) (ok : tableSound tb ≡ true) (sized : length v ≡ 256 
       is : (f : ℕ) → 1 ≤ f → f ≤ fileCountIn tb → IsFile t f
       is f lo hi = record { low = lo; high = rw (decoded-files tb) hi }
 
-      header_is : (f : ℕ) → 1 ≤ f → f ≤ fileCountIn tb → headerSectorIn tb (f - 1) ≡ headerSector t f
-      header_is = header-in tb (is-table tb ok)
+      header-is : (f : ℕ) → 1 ≤ f → f ≤ fileCountIn tb → headerSectorIn tb (f - 1) ≡ headerSector t f
+      header-is = header-in tb (is-table tb ok)
 
 -- ------------------------------------------------------------------ the length and sector 0
 -- What these tests have shown.
@@ -89,18 +89,18 @@ pub record TableTested (v : Volume) (tb : Bytes) : Type 0 where
 
 module _ (v : Volume) (tb : Bytes) (q : tb ≡ sector v 0) where
   -- `tableSoundIn`, about tb.
-  abbrev table_parts : Bool
-  table_parts = all (tableFits (decodeTable tb) ∷ eqb (length v) (256 * (decodeTable tb).sectors) ∷ isTableEncoding tb ∷ [])
+  abbrev tableParts : Bool
+  tableParts = all (tableFits (decodeTable tb) ∷ eqb (length v) (256 * (decodeTable tb).sectors) ∷ isTableEncoding tb ∷ [])
 
-  pub table-parts : tableSoundIn v ≡ table_parts
-  unfolding tableSoundIn table_of
+  pub table-parts : tableSoundIn v ≡ tableParts
+  unfolding tableSoundIn tableOf
   table-parts = rw q
 
   pub table-tested : tableSoundIn v ≡ true → TableTested v tb
   unfolding tableSound
   table-tested e =
-      let p : table_parts ≡ true = sym table-parts ∙ e in
-      let table : tableSound tb ≡ true = and_both (isTableEncoding tb) _ (all-at _ 2 p) (all-at _ 0 p) in
+      let p : tableParts ≡ true = sym table-parts ∙ e in
+      let table : tableSound tb ≡ true = and-both (isTableEncoding tb) _ (all-at _ 2 p) (all-at _ 0 p) in
       let size : eqb (length v) (256 * sectorsIn tb) ≡ true = rw (← sectors-are tb) (all-at _ 1 p) in
       let sized : length v ≡ 256 * sectorsIn tb = eqb-true _ _ size in
       record { long = omega (arith, records-inside v tb table sized); table = table; size = sized }
@@ -109,24 +109,24 @@ module _ (v : Volume) (tb : Bytes) (q : tb ≡ sector v 0) where
   unfolding tableTest tableSound
   tested-table e =
       let table : (isTableEncoding tb && tableFits (decodeTable tb)) ≡ true = all-at _ 1 e in
-      table-parts ∙ all_of (and_right (isTableEncoding tb) _ table also rw (sectors-are tb) (all-at _ 2 e) also and_left (isTableEncoding tb) _ table also none)
+      table-parts ∙ all-of (and-right (isTableEncoding tb) _ table also rw (sectors-are tb) (all-at _ 2 e) also and-left (isTableEncoding tb) _ table also none)
 
-  table_is : tableSoundIn v ≡ tableTest v tb
+  table-is : tableSoundIn v ≡ tableTest v tb
   unfolding tableTest
-  table_is = iff _ _ (λ e. let k = table-tested e in all_of (le-leb 256 (length v) k.long also k.table also eq-eqb _ _ k.size also none)) tested-table
+  table-is = iff _ _ (λ e. let k = table-tested e in all-of (le-leb 256 (length v) k.long also k.table also eq-eqb _ _ k.size also none)) tested-table
 
   -- Test by test, as `table_is_sound_in` makes them.
   pub table-no : tableSound tb ≡ false → tableSoundIn v ≡ false
   unfolding tableTest
-  table-no e = table_is ∙ all-no _ 1 e
+  table-no e = table-is ∙ all-no _ 1 e
 
   pub table-last : 256 ≤ length v → tableSound tb ≡ true → eqb (length v) (256 * sectorsIn tb) ≡ tableSoundIn v
   unfolding tableTest
-  table-last long table = sym (table_is ∙ all-last (le-leb 256 (length v) long then table then final))
+  table-last long table = sym (table-is ∙ all-last (le-leb 256 (length v) long then table then final))
 
 pub short-no : (v : Volume) → length v < 256 → tableSoundIn v ≡ false
 unfolding tableTest
-short-no v h = table_is v (sector v 0) refl ∙ all-no _ 0 (lt-leb 256 (length v) h)
+short-no v h = table-is v (sector v 0) refl ∙ all-no _ 0 (lt-leb 256 (length v) h)
 
 -- ------------------------------------------------------------------ sound
 module _ (v : Volume) (tb : Bytes) (q : tb ≡ sector v 0) where
@@ -134,7 +134,7 @@ module _ (v : Volume) (tb : Bytes) (q : tb ≡ sector v 0) where
   t0 = decodeTable tb
 
   abbrev places : Place → Bytes
-  places = bytes_at t0 v
+  places = bytesAt t0 v
 
   -- The bytes of every record and of every header, and what they say.
   abbrev recordBytes : Bool
@@ -156,9 +156,9 @@ module _ (v : Volume) (tb : Bytes) (q : tb ≡ sector v 0) where
       ∷ all (eqb (length v) (256 * t0.sectors) ∷ all (isTableEncoding tb ∷ recordBytes ∷ headerBytes ∷ []) ∷ [])
       ∷ [])
 
-  parts_are : sound v ≡ parts
-  unfolding sound lawful view table_of canonical encoded
-  parts_are = rw q
+  parts-are : sound v ≡ parts
+  unfolding sound lawful view tableOf canonical encoded
+  parts-are = rw q
 
   -- The code tests bytes and numbers of a record together, and those of a header.
   records-are : every (recordSoundIn t0 v) (from 1 (clientsIn tb)) ≡ (recordBytes && recordNumbers)
@@ -174,13 +174,13 @@ module _ (v : Volume) (tb : Bytes) (q : tb ≡ sector v 0) where
   sound-to : soundTest v tb ≡ true → parts ≡ true
   unfolding soundTest
   sound-to e =
-      let table : table_parts v tb q ≡ true = sym (table-parts v tb q) ∙ all-at _ 0 e in
+      let table : tableParts v tb q ≡ true = sym (table-parts v tb q) ∙ all-at _ 0 e in
       let recs : (recordBytes && recordNumbers) ≡ true = sym records-are ∙ all-at _ 1 e in
       let heads : (headerBytes && headerNumbers) ≡ true = sym headers-are ∙ all-at _ 2 e in
-      all_of
-      (all_of (all-at _ 0 table also and_right recordBytes _ recs also and_right headerBytes _ heads also none)
-      also all_of (all-at _ 1 table
-      also all_of (all-at _ 2 table also and_left recordBytes _ recs also and_left headerBytes _ heads also none) also none)
+      all-of
+      (all-of (all-at _ 0 table also and-right recordBytes _ recs also and-right headerBytes _ heads also none)
+      also all-of (all-at _ 1 table
+      also all-of (all-at _ 2 table also and-left recordBytes _ recs also and-left headerBytes _ heads also none) also none)
       also none)
 
   sound-from : parts ≡ true → soundTest v tb ≡ true
@@ -189,13 +189,13 @@ module _ (v : Volume) (tb : Bytes) (q : tb ≡ sector v 0) where
       let law : all (tableFits t0 ∷ recordNumbers ∷ headerNumbers ∷ []) ≡ true = all-at _ 0 e in
       let sized : all (eqb (length v) (256 * t0.sectors) ∷ all (isTableEncoding tb ∷ recordBytes ∷ headerBytes ∷ []) ∷ []) ≡ true = all-at _ 1 e in
       let bytes : all (isTableEncoding tb ∷ recordBytes ∷ headerBytes ∷ []) ≡ true = all-at _ 1 sized in
-      let table : table_parts v tb q ≡ true = all_of (all-at _ 0 law also all-at _ 0 sized also all-at _ 0 bytes also none) in
-      let recs : (recordBytes && recordNumbers) ≡ true = and_both recordBytes _ (all-at _ 1 bytes) (all-at _ 1 law) in
-      let heads : (headerBytes && headerNumbers) ≡ true = and_both headerBytes _ (all-at _ 2 bytes) (all-at _ 2 law) in
-      all_of (table-parts v tb q ∙ table also records-are ∙ recs also headers-are ∙ heads also none)
+      let table : tableParts v tb q ≡ true = all-of (all-at _ 0 law also all-at _ 0 sized also all-at _ 0 bytes also none) in
+      let recs : (recordBytes && recordNumbers) ≡ true = and-both recordBytes _ (all-at _ 1 bytes) (all-at _ 1 law) in
+      let heads : (headerBytes && headerNumbers) ≡ true = and-both headerBytes _ (all-at _ 2 bytes) (all-at _ 2 law) in
+      all-of (table-parts v tb q ∙ table also records-are ∙ recs also headers-are ∙ heads also none)
 
   sound-is : sound v ≡ soundTest v tb
-  sound-is = parts_are ∙ iff _ _ sound-from sound-to
+  sound-is = parts-are ∙ iff _ _ sound-from sound-to
 
   -- ------------------------------------------------------------------ test by test, as `is_sound` makes them
   pub records-no : every (recordSoundIn t0 v) (from 1 (clientsIn tb)) ≡ false → sound v ≡ false

@@ -2,6 +2,7 @@
 // It reads the table, the intentions records and the headers, and no slot and no later sector. Each of
 // the crates `table_test`, `record_test` and `header_test` tests one kind of control sector: whether its bytes are one,
 // which `sector` says, and its numbers.
+#![tactic(auto)]
 
 ghost use Rattle.std.specs.Prelude.{◌≡◌, true, ◌+◌, ◌*◌, ◌≤◌, length};
 ghost use Rattle.lists.specs.Lists.{every, from};

@@ -4,11 +4,11 @@ use mathlib.Core.Path.{◌≡◌, refl, sym, ap, ◌∙◌}
 use mathlib.Core.Bool.{true, false, not}
 use mathlib.Core.List.{List, [], ◌∷◌, ◌++◌}
 use borrow.Author.Tests.{not-true}
-use Rattle.lists.proofs.ListLaws.{and_left, no_both}
+use Rattle.lists.proofs.ListLaws.{and-left, no-both}
 use Rattle.lists.proofs.CaseLaws.{by-test}
 use Rattle.volume.specs.Views.{View, Update}
 use Rattle.volume.specs.Volumes.{Volume, view}
-use Rattle.volume.specs.Stores.{cut_at, updated, allStores}
+use Rattle.volume.specs.Stores.{cutAt, updated, allStores}
 use Rattle.volume.specs.WellFormed.{WellFormed}
 use Rattle.volume.proofs.ViewLaws.{Placed}
 use Rattle.volume.proofs.StoreLaws.{stores-append}
@@ -22,17 +22,17 @@ use Rattle.stores.proofs.RunLaws.{run-append, run-crashed, run-all}
 pub all-table : {v w : Volume} (xs : List Update) → AllMade v xs w → (view w).table ≡ (view v).table
 all-table {v} xs m = ap (λ (a : View). a.table) m.seen ∙ changed-table xs (view v)
 
-pub all_none : {v w : Volume} {r q : Run} → WellFormed v → UpdatesMade v r [] w q → AllMade v [] w
+pub all-none : {v w : Volume} {r q : Run} → WellFormed v → UpdatesMade v r [] w q → AllMade v [] w
 unfolding allStores storesMade
-all_none formed m =
+all-none formed m =
     let e = ap (λ (p : Volume × Run). p.0) m.stores in
     record { formed = rw e formed; seen = ap view e }
 
 -- One update that has its place.
-pub all_one : {v w : Volume} {r q : Run} (x : Update) → WellFormed v → Placed (view v).table x
+pub all-one : {v w : Volume} {r q : Run} (x : Update) → WellFormed v → Placed (view v).table x
     → UpdatesMade v r (x ∷ []) w q → q.crashed ≡ false → AllMade v (x ∷ []) w
-unfolding allStores cut_at
-all_one {v} {w} {r} x formed placed m c =
+unfolding allStores cutAt
+all-one {v} {w} {r} x formed placed m c =
     let e : w ≡ updated (view v).table v x = run-all _ v r m.stores c in
     record {
       formed = rw e (formed-cut v formed (x ∷ []) (placed, tt) 1);
@@ -40,17 +40,17 @@ all_one {v} {w} {r} x formed placed m c =
     }
 
 -- ------------------------------------------------------------------ none and one
-pub made_none : {v : Volume} {r : Run} → UpdatesMade v r [] v r
+pub made-none : {v : Volume} {r : Run} → UpdatesMade v r [] v r
 unfolding allStores storesMade
-made_none = record { stores = refl }
+made-none = record { stores = refl }
 
 -- One update, by the run that was to make it.
 module _ (r : Run) {q : Run} (e : q ≡ counted r) where
   going-is : not q.crashed ≡ goesOn r
   going-is = by-test (goesOn r) (λ g. rw (e, g)) (λ g. rw (e, g))
 
-  pub put_going : not q.crashed ≡ true → r.crashed ≡ false
-  put_going c = not-true _ (and_left (not r.crashed) _ (sym going-is ∙ c))
+  pub put-going : not q.crashed ≡ true → r.crashed ≡ false
+  put-going c = not-true _ (and-left (not r.crashed) _ (sym going-is ∙ c))
 
   module _ {v : Volume} {x : Update} where
     pub put-made : {w : Volume} → not q.crashed ≡ true → w ≡ updated (view v).table v x → UpdatesMade v r (x ∷ []) w q
@@ -69,7 +69,7 @@ made-crashed {v} {xs = xs} c = record { stores = sym (run-crashed (allStores (vi
 module _ {v w : Volume} {r q : Run} {xs : List Update} where
   pub made-going : UpdatesMade v r xs w q → q.crashed ≡ false → r.crashed ≡ false
   made-going m c = by-test r.crashed
-      (λ e. no_both q.crashed (ap (λ (p : Volume × Run). p.1.crashed) (m.stores ∙ run-crashed (allStores (view v).table xs) e) ∙ e) c) (λ e. e)
+      (λ e. no-both q.crashed (ap (λ (p : Volume × Run). p.1.crashed) (m.stores ∙ run-crashed (allStores (view v).table xs) e) ∙ e) c) (λ e. e)
 
   -- So it doesn't matter which ones it was to make.
   pub made-same : {ys : List Update} → (r.crashed ≡ false → xs ≡ ys) → UpdatesMade v r xs w q → UpdatesMade v r ys w q
@@ -78,9 +78,9 @@ module _ {v w : Volume} {r q : Run} {xs : List Update} where
       (λ e. rw (same e) at m)
 
 -- ------------------------------------------------------------------ one after the other
-pub made_more : {v w u : Volume} {r q z : Run} {xs ys : List Update} → (q.crashed ≡ false → (view w).table ≡ (view v).table)
+pub made-more : {v w u : Volume} {r q z : Run} {xs ys : List Update} → (q.crashed ≡ false → (view w).table ≡ (view v).table)
     → UpdatesMade v r xs w q → UpdatesMade w q ys u z → UpdatesMade v r (xs ++ ys) u z
-made_more {v} {w} {u} {r} {q} {z} {xs} {ys} same m n =
+made-more {v} {w} {u} {r} {q} {z} {xs} {ys} same m n =
     let t = (view v).table in
     let first : storesMade (v, r) (allStores t (xs ++ ys)) ≡ storesMade (w, q) (allStores t ys)
     = ap (storesMade (v, r)) (stores-append t xs ys) ∙ run-append (allStores t xs) (allStores t ys) (v, r)

@@ -18,8 +18,8 @@ run budget made crashed = record { budget = budget; made = made; crashed = crash
 abbrev runs : List Run
 runs = newRun 2 ∷ run 2 1 false ∷ run 2 2 false ∷ newRun 0 ∷ run 2 1 true ∷ []
 
-goes_on : map goesOn runs ≡ true ∷ true ∷ false ∷ false ∷ false ∷ []
-goes_on = refl
+goes-on : map goesOn runs ≡ true ∷ true ∷ false ∷ false ∷ false ∷ []
+goes-on = refl
 
 -- A crash counts no store.
 counts : map counted runs ≡ run 2 1 false ∷ run 2 2 false ∷ run 2 2 true ∷ run 0 0 true ∷ run 2 1 true ∷ []

@@ -12,9 +12,9 @@ use lib.ListN.{length, take}
 use lib.Seq.{take-nil}
 use Rattle.sector.specs.Sectors.{storeAt}
 use Rattle.volume.specs.Volumes.{Volume}
-use Rattle.lists.proofs.ListLaws.{no_both}
+use Rattle.lists.proofs.ListLaws.{no-both}
 use Rattle.lists.proofs.CaseLaws.{by-test}
-use Rattle.volume.specs.Stores.{Store, cut_at}
+use Rattle.volume.specs.Stores.{Store, cutAt}
 use Rattle.stores.specs.declared.Run.{Run}
 use Rattle.stores.specs.Runs.{newRun, goesOn, storesMade}
 
@@ -37,17 +37,17 @@ pub run-crashed : (xs : List Store) {v : Volume} {r : Run} → r.crashed ≡ tru
 run-crashed xs {v} {r} e = rw (← e) at (stopped xs v r.budget r.made)
 
 -- One that hasn't crashed after these stores has made them all.
-pub run-all : (xs : List Store) (v : Volume) (r : Run) {w : Volume} {q : Run} → (w, q) ≡ storesMade (v, r) xs → q.crashed ≡ false → w ≡ cut_at v xs (length xs)
-unfolding storesMade cut_at
+pub run-all : (xs : List Store) (v : Volume) (r : Run) {w : Volume} {q : Run} → (w, q) ≡ storesMade (v, r) xs → q.crashed ≡ false → w ≡ cutAt v xs (length xs)
+unfolding storesMade cutAt
 run-all [] v r e c = ap (λ p. p.0) e
 run-all (x ∷ xs) v r {w} {q} e c = by-test (goesOn r) (λ g. run-all xs (storeAt v x.target x.bytes) _ {w = w} {q = q} (rw g at e) c)
-    (λ g. no_both _ (ap (λ p. p.1.crashed) (rw g at e ∙ stopped xs v r.budget r.made)) c)
+    (λ g. no-both _ (ap (λ p. p.1.crashed) (rw g at e ∙ stopped xs v r.budget r.made)) c)
 
 -- ------------------------------------------------------------------ a new run
 from-here : (n m : ℕ) (xs : List Store) (v : Volume)
     → storesMade (v, record { budget = m + n; made = m; crashed = false }) xs
-    ≡ (cut_at v xs n, record { budget = m + n; made = m + length (take n xs); crashed = ltb n (length xs) })
-unfolding storesMade cut_at
+    ≡ (cutAt v xs n, record { budget = m + n; made = m + length (take n xs); crashed = ltb n (length xs) })
+unfolding storesMade cutAt
 from-here n m [] v = let z : m + 0 ≡ m = omega arith in rw (take-nil {A = Store} n, le-ltb n 0 (omega arith), z)
 from-here zero m (x ∷ xs) v = let z : m + 0 ≡ m = omega arith in rw (z, le-ltb m m (omega arith), lt-ltb 0 (suc (length xs)) (omega arith)) (stopped xs v m m)
 from-here (suc n) m (x ∷ xs) v =
@@ -58,5 +58,5 @@ from-here (suc n) m (x ∷ xs) v =
 
 -- Of the stores of a new run the first `budget` are made; it crashed if they aren't all.
 pub run-new : (budget : ℕ) (xs : List Store) (v : Volume) → storesMade (v, newRun budget) xs
-    ≡ (cut_at v xs budget, record { budget = budget; made = length (take budget xs); crashed = ltb budget (length xs) })
+    ≡ (cutAt v xs budget, record { budget = budget; made = length (take budget xs); crashed = ltb budget (length xs) })
 run-new budget xs v = simp zero-add at (from-here budget 0 xs v)

@@ -9,7 +9,7 @@ use native.Mathlib.Omega.{arith}
 use lib.Dec.{leb}
 use lib.ListN.{drop}
 use Rattle.lists.specs.Lists.{every}
-use Rattle.lists.proofs.TestLaws.{all-no, all-last, every_more, every-fails, final, ◌then◌}
+use Rattle.lists.proofs.TestLaws.{all-no, all-last, every-more, every-fails, final, ◌then◌}
 use Rattle.sector.specs.Layout.{itemOffset}
 use Rattle.sector.specs.Contents.{Bytes, File}
 use Rattle.sector.specs.Sectors.{byte}
@@ -44,7 +44,7 @@ module _ {d : Bytes} {first h i : ℕ} (left : FilesLeft d first h i) where
       unfolding sectorAfter
       files-more e f = record {
         headers = follow-more d _ (fileCountIn d) h i left.headers lt small e;
-        fits = every_more (files d) i _ (next-file d i lt) _ fileFits f left.fits;
+        fits = every-more (files d) i _ (next-file d i lt) _ fileFits f left.fits;
         ends = left.ends ∙ rw (next-file d i lt);
       }
 

@@ -13,14 +13,14 @@ use Rattle.sector.specs.Layout.{sectorsOffset}
 use Rattle.sector.specs.Contents.{Bytes, Table}
 use Rattle.sector.specs.Sectors.{byte}
 use Rattle.sector.specs.Decoding.{sectorsIn, clientsIn, fileCountIn, headerSectorIn, decodeTable}
-use Rattle.lists.proofs.ListLaws.{and_left, and_right, between-true, all-at, same-equal}
+use Rattle.lists.proofs.ListLaws.{and-left, and-right, between-true, all-at, same-equal}
 use Rattle.sector.proofs.CodecLaws.{decoded-files}
 use Rattle.volume.specs.Places.{headerSector, endSector}
 use Rattle.volume.specs.Lawful.{fileFits, tableFits}
 use Rattle.volume.proofs.LawfulLaws.{TableFacts, table-facts}
 use Rattle.volume.proofs.TableLaws.{table-header}
 use Rattle.sector.specs.Encoded.{isTableEncoding, tableFramed, headersIn}
-use Rattle.sector.proofs.EncodedLaws.{table_is}
+use Rattle.sector.proofs.EncodedLaws.{table-is}
 use Rattle.table_test.specs.Table.{countsFit, tableSound, filesSound}
 
 module _ (d : Bytes) where
@@ -38,11 +38,11 @@ module _ (d : Bytes) where
   -- What a sound table has.
   pub facts : tableSound d ≡ true → TableFacts t
   unfolding tableSound
-  facts ok = table-facts (and_right (isTableEncoding d) _ ok)
+  facts ok = table-facts (and-right (isTableEncoding d) _ ok)
 
   pub is-table : tableSound d ≡ true → isTableEncoding d ≡ true
   unfolding tableSound
-  is-table ok = and_left (isTableEncoding d) _ ok
+  is-table ok = and-left (isTableEncoding d) _ ok
 
   pub file-count : countsFit d ≡ true → (1 ≤ fileCountIn d) × (fileCountIn d ≤ 16)
   unfolding countsFit
@@ -67,15 +67,15 @@ module _ (d : Bytes) where
 
   module _ (len : length d ≡ 256) (small : byte d sectorsOffset < 256) (counts : countsFit d ≡ true) where
     encoding-is : isTableEncoding d ≡ all (tableFramed d ∷ headersIn (clientsIn d + 1) d ∷ [])
-    encoding-is = table_is d len (omega (arith, file-count counts)) small
+    encoding-is = table-is d len (omega (arith, file-count counts)) small
 
     pub frame-no : tableFramed d ≡ false → tableSound d ≡ false
     unfolding tableSound
     frame-no e = rw (encoding-is ∙ all-no _ 0 e)
 
-    framed_is : tableFramed d ≡ true → isTableEncoding d ≡ headersIn (clientsIn d + 1) d
-    framed_is e = encoding-is ∙ all-last (e then final)
+    framed-is : tableFramed d ≡ true → isTableEncoding d ≡ headersIn (clientsIn d + 1) d
+    framed-is e = encoding-is ∙ all-last (e then final)
 
     pub table-last : tableFramed d ≡ true → filesSound (clientsIn d + 1) d ≡ tableSound d
     unfolding tableSound filesSound all
-    table-last e = rw (framed_is e, fits-are, counts, clients-are) (simp and-true)
+    table-last e = rw (framed-is e, fits-are, counts, clients-are) (simp and-true)

@@ -17,8 +17,8 @@ use Rattle.sector.specs.Contents.{Bytes}
 use Rattle.volume.specs.Listing.{digit, decimal}
 use Rattle.text.specs.Writes.{Wrote, atFront}
 
-pub wrote_none : (b : Bytes) (at : ℕ) → Wrote b at [] b at
-wrote_none b at = record { bytes = refl; next = omega arith }
+pub wrote-none : (b : Bytes) (at : ℕ) → Wrote b at [] b at
+wrote-none b at = record { bytes = refl; next = omega arith }
 
 -- Then e is written behind d.
 pub wrote-more : {b c f d e : Bytes} {at n m : ℕ} → Wrote b at d c n → Wrote c n e f m → Wrote b at (d ++ e) f m
@@ -46,9 +46,9 @@ module _ (n : ℕ) where
   unfolding decimal
   one-digit h = rw (lt-ltb n 10 h)
 
-  pub two_digits : 10 ≤ n → n < 100 → length (decimal n) ≡ 2
+  pub two-digits : 10 ≤ n → n < 100 → length (decimal n) ≡ 2
   unfolding decimal
-  two_digits l h = rw (le-ltb n 10 l, lt-ltb n 100 h)
+  two-digits l h = rw (le-ltb n 10 l, lt-ltb n 100 h)
 
   pub three-digits : 100 ≤ n → length (decimal n) ≡ 3
   unfolding decimal
@@ -73,9 +73,9 @@ module _ (n : ℕ) where
       go false false = omega arith
 
 module _ (b : Bytes) (at n : ℕ) where
-  pub wrote_one : n < 10 → Wrote b at (decimal n) (set b at (48 + n)) (at + 1)
+  pub wrote-one : n < 10 → Wrote b at (decimal n) (set b at (48 + n)) (at + 1)
   unfolding decimal
-  wrote_one h = rw (lt-ltb n 10 h) (record { bytes = refl; next = refl })
+  wrote-one h = rw (lt-ltb n 10 h) (record { bytes = refl; next = refl })
 
   pub wrote-two : 10 ≤ n → n < 100 → Wrote b at (decimal n) (set (set b at (48 + n / 10)) (at + 1) (48 + n % 10)) (at + 2)
   unfolding decimal

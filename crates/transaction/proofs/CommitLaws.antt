@@ -17,7 +17,7 @@ use Rattle.rules.specs.Plans.{commit, abort, plan}
 use Rattle.rules.proofs.RecoveryLaws.{decidedView, recovery-decided}
 use Rattle.stores.specs.declared.Run.{Run}
 use Rattle.stores.specs.Runs.{UpdatesMade, AllMade}
-use Rattle.stores.proofs.MadeLaws.{all-table, all_one, made-same, made_more}
+use Rattle.stores.proofs.MadeLaws.{all-table, all-one, made-same, made-more}
 use Rattle.recovery.specs.Work.{recoveryNow}
 use Rattle.recovery.proofs.WorkLaws.{now-open, now-decided}
 
@@ -33,7 +33,7 @@ module _ {v : Volume} (formed : WellFormed v) {k : ℕ} (client : IsClient (view
   decided : q.crashed ≡ false → AllMade v (deciding (view v) k) w
   decided =
       let facts : RecordFacts (view v).table ((view v).records k) = record-facts (formed.record-fits k client.low client.high) in
-      all_one _ formed (client.low, client.high, decided-fits facts) m
+      all-one _ formed (client.low, client.high, decided-fits facts) m
 
   pub decided-formed : q.crashed ≡ false → WellFormed w × IsClient (view w).table k
   decided-formed c = ((decided c).formed, rw (all-table _ (decided c)) client)
@@ -41,7 +41,7 @@ module _ {v : Volume} (formed : WellFormed v) {k : ℕ} (client : IsClient (view
   pub commit-more : {u : Volume} {z : Run} → UpdatesMade w q (recoveryNow (view w) k) u z
       → (s : Session) → UpdatesMade v r (plan (view v) s (commit k)) u z
   unfolding plan
-  commit-more n s = made_more (λ c. all-table _ (decided c)) m
+  commit-more n s = made-more (λ c. all-table _ (decided c)) m
       (made-same (λ c. ap (λ (a : View). recoveryNow a k) (decided c).seen ∙ decided-now (view v) k) n)
 
 pub abort-plan : (a : View) (s : Session) (k : ℕ) → (a.records k).state ≡ 1 → plan a s (abort k) ≡ recoveryNow a k

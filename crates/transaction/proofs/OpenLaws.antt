@@ -22,7 +22,7 @@ use Rattle.rules.specs.Refusals.{heldByOther}
 use Rattle.rules.proofs.AllowedLaws.{holder-orphaned}
 use Rattle.stores.specs.declared.Run.{Run}
 use Rattle.stores.specs.Runs.{UpdatesMade, AllMade}
-use Rattle.stores.proofs.MadeLaws.{all-table, made-same, made_more}
+use Rattle.stores.proofs.MadeLaws.{all-table, made-same, made-more}
 use Rattle.recovery.specs.Work.{recoveryNow}
 use Rattle.recovery.proofs.WorkLaws.{now-live}
 use Rattle.recovery.proofs.ReleaseLaws.{recovered-header}
@@ -100,6 +100,6 @@ module _ {v : Volume} (formed : WellFormed v) {k f h : ℕ} (file : IsFile (view
     map-now c = ap (λ (a : View). (a.headers f).map) (done c).seen ∙ ap (λ (xs : List Update). ((changedBy (view v) xs).headers f).map) now
         ∙ ap (λ (x : Header). x.map) (recovered-header redo (view v) h f file e)
 
-    pub open_more : {u : Volume} {l : Run} → UpdatesMade w q (setHeader f (record { holder = k; map = ((view w).headers f).map }) ∷ []) u l
+    pub open-more : {u : Volume} {l : Run} → UpdatesMade w q (setHeader f (record { holder = k; map = ((view w).headers f).map }) ∷ []) u l
         → (s : Session) → heldByOther (view v) s k f ≡ false → UpdatesMade v r (plan (view v) s (openFile k f)) u l
-    open_more n s free = rw (whole s free) (made_more (λ c. all-table _ (done c)) (rw now at m) (made-same (λ c. rw (map-now c)) n))
+    open-more n s free = rw (whole s free) (made-more (λ c. all-table _ (done c)) (rw now at m) (made-same (λ c. rw (map-now c)) n))

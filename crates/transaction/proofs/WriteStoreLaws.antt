@@ -15,7 +15,7 @@ use Rattle.volume.specs.WellFormed.{WellFormed}
 use Rattle.rules.specs.Plans.{write, entryFor, plan}
 use Rattle.stores.specs.declared.Run.{Run}
 use Rattle.stores.specs.Runs.{UpdatesMade, AllMade}
-use Rattle.stores.proofs.MadeLaws.{all-table, all_one, made-same, made_more}
+use Rattle.stores.proofs.MadeLaws.{all-table, all-one, made-same, made-more}
 use Rattle.transaction.specs.Tested.{NewPage}
 
 pub again-plan : (a : View) (s : Session) (k f p slot : ℕ) (d : Bytes) (e : Entry) → entryFor a k f p ≡ some e → e.slot ≡ slot
@@ -31,7 +31,7 @@ new-plan a s k f p slot d new = rw (new.absent, new.choice)
 module _ {v : Volume} (formed : WellFormed v) {k f p slot : ℕ} (new : NewPage (view v) k f p slot) {d : Bytes} (size : length d ≡ 256)
     {w : Volume} {r q : Run} (m : UpdatesMade v r (setSlot f slot d ∷ []) w q) where
   written : q.crashed ≡ false → AllMade v (setSlot f slot d ∷ []) w
-  written = all_one _ formed (new.file, new.below, size) m
+  written = all-one _ formed (new.file, new.below, size) m
 
   same : q.crashed ≡ false → (view w).records k ≡ (view v).records k
   same c = ap (λ (a : View). a.records k) (written c).seen
@@ -42,4 +42,4 @@ module _ {v : Volume} (formed : WellFormed v) {k f p slot : ℕ} (new : NewPage 
   pub write-more : {u : Volume} {z : Run}
       → UpdatesMade w q (setRecord k (appended ((view w).records k) (record { file = f; page = p; slot = slot })) ∷ []) u z
       → (s : Session) → UpdatesMade v r (plan (view v) s (write k f p d)) u z
-  write-more n s = rw (new-plan (view v) s k f p slot d new) (made_more (λ c. all-table _ (written c)) m (made-same (λ c. rw (same c)) n))
+  write-more n s = rw (new-plan (view v) s k f p slot d new) (made-more (λ c. all-table _ (written c)) m (made-same (λ c. rw (same c)) n))

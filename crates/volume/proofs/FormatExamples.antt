@@ -13,19 +13,19 @@ use Rattle.sector.specs.Sectors.{padded}
 use Rattle.volume.specs.Volumes.{Volume}
 use Rattle.sector.specs.Encoding.{fileBytes, encodeTable, entryBytes, encodeRecord, encodeHeader}
 use Rattle.volume.specs.Places.{sectorAfter}
-use Rattle.sector.specs.Shapes.{files_of}
+use Rattle.sector.specs.Shapes.{filesOf}
 use Rattle.volume.specs.Format.{lengthFits, shapeFits, endFits, tableFor, formatTests, repeated, newFiles, newVolume, Formatted, format}
 use Rattle.volume.proofs.PlaceExamples.{file, table, rec, header, smallTable}
 
 -- ------------------------------------------------------------------ Arguments
 -- "a byte list of P, R pairs": a byte left over makes no file.
-pairs : map files_of ([] ∷ (2 ∷ 3 ∷ 1 ∷ 4 ∷ []) ∷ (2 ∷ 3 ∷ 1 ∷ []) ∷ []) ≡ [] ∷ (file 2 3 ∷ file 1 4 ∷ []) ∷ (file 2 3 ∷ []) ∷ []
-unfolding files_of
+pairs : map filesOf ([] ∷ (2 ∷ 3 ∷ 1 ∷ 4 ∷ []) ∷ (2 ∷ 3 ∷ 1 ∷ []) ∷ []) ≡ [] ∷ (file 2 3 ∷ file 1 4 ∷ []) ∷ (file 2 3 ∷ []) ∷ []
+unfolding filesOf
 pairs = refl
 
 -- N is counted in sectors.
 table-for : tableFor 3072 2 (2 ∷ 3 ∷ 1 ∷ 3 ∷ []) ≡ smallTable
-unfolding files_of
+unfolding filesOf
 table-for = refl
 
 -- ------------------------------------------------------------------ Refusals
@@ -62,7 +62,7 @@ rows =
     ∷ []
 
 refusals-hold : every (λ x. eqb (first (formatTests x.bytes x.clients x.shape)) x.refusal) rows ≡ true
-unfolding all first sectorAfter files_of repeated formatTests lengthFits shapeFits endFits
+unfolding all first sectorAfter filesOf repeated formatTests lengthFits shapeFits endFits
 refusals-hold = refl
 
 -- ------------------------------------------------------------------ New volumes
@@ -86,7 +86,7 @@ formatted a v = record { answer = a; volume = v }
 -- "answers done without a count". "all other sectors zero": of what the array had, nothing stays, and its length does.
 format-answers-done : map (λ v. format v 1 (1 ∷ 1 ∷ [])) (replicate 1024 0xEE ∷ replicate 1536 0xEE ∷ [])
     ≡ map (formatted formatDone) (newVolume oneFile ∷ (set (newVolume oneFile) 2 6 ++ replicate 512 0) ∷ [])
-unfolding format formatTests lengthFits shapeFits endFits first all files_of newVolume repeated newFiles sectorAfter encodeTable encodeRecord encodeHeader fileBytes entryBytes padded
+unfolding format formatTests lengthFits shapeFits endFits first all filesOf newVolume repeated newFiles sectorAfter encodeTable encodeRecord encodeHeader fileBytes entryBytes padded
 format-answers-done = refl
 
 -- The array's length, T and the list are tested. Refused: the number, and the array as it was.
@@ -99,5 +99,5 @@ unfolding first all formatTests lengthFits shapeFits endFits format
 too-many-clients v e = rw e refl
 
 too-many-slots : (v : Volume) → length v ≡ 1024 → format v 1 (1 ∷ 2 ∷ []) ≡ formatted (formatRefused 15) v
-unfolding first all formatTests lengthFits shapeFits endFits files_of sectorAfter format
+unfolding first all formatTests lengthFits shapeFits endFits filesOf sectorAfter format
 too-many-slots v e = rw e refl

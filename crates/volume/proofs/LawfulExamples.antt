@@ -14,7 +14,7 @@ use Rattle.sector.specs.Encoding.{fileBytes, encodeTable, entryBytes, encodeReco
 use Rattle.sector.specs.Decoding.{decodeFiles, decodeTable, decodeEntries, decodeRecord, decodeHeader}
 use Rattle.volume.specs.Places.{sectorAfter}
 use Rattle.volume.specs.Views.{View, setRecord, changed}
-use Rattle.volume.specs.Volumes.{Volume, table_of, recordIn, headerIn, view}
+use Rattle.volume.specs.Volumes.{Volume, tableOf, recordIn, headerIn, view}
 use Rattle.volume.specs.Lawful.{tableFits, entryFits, recordFits, apart, holderFits, headerFits, lawful}
 use Rattle.volume.specs.Sound.{encoded, canonical, sound, tableSoundIn}
 use Rattle.volume.specs.WellFormed.{HasEntry, noEntry}
@@ -148,7 +148,7 @@ sound-volumes : map sound
     (tiny ∷ set tiny 255 1 ∷ set tiny 511 1 ∷ set tiny 767 1 ∷ set tiny 1023 1 ∷ set tiny 1535 1 ∷ set tiny 258 3
     ∷ (tiny ++ (0 ∷ [])) ∷ set tiny 1279 1 ∷ set tiny 2047 1 ∷ [])
     ≡ true ∷ false ∷ false ∷ false ∷ false ∷ false ∷ false ∷ false ∷ true ∷ true ∷ []
-unfolding sound lawful canonical encoded all view table_of recordIn headerIn decodeTable decodeFiles decodeRecord decodeEntries decodeHeader sector newVolume newFiles repeated sectorAfter encodeTable fileBytes encodeRecord entryBytes encodeHeader padded
+unfolding sound lawful canonical encoded all view tableOf recordIn headerIn decodeTable decodeFiles decodeRecord decodeEntries decodeHeader sector newVolume newFiles repeated sectorAfter encodeTable fileBytes encodeRecord entryBytes encodeHeader padded
 sound-volumes = refl
 
 -- Two files that leave slots: of 3 slots for 2 pages one, of 4 for 1 page three. Byte 3 of each header says so.
@@ -165,7 +165,7 @@ saying s n = storeAt leaving s (set (sector leaving s) 3 n)
 
 sound-counts : map (λ n. sound (saying 2 n)) (0 ∷ 1 ∷ 2 ∷ 3 ∷ []) ++ map (λ n. sound (saying 6 n)) (0 ∷ 1 ∷ 3 ∷ 4 ∷ [])
     ≡ false ∷ true ∷ false ∷ false ∷ false ∷ false ∷ true ∷ false ∷ []
-unfolding sound lawful canonical encoded all view table_of recordIn headerIn decodeTable decodeFiles decodeRecord decodeEntries decodeHeader sector storeAt newVolume newFiles repeated sectorAfter encodeTable fileBytes encodeRecord entryBytes encodeHeader padded
+unfolding sound lawful canonical encoded all view tableOf recordIn headerIn decodeTable decodeFiles decodeRecord decodeEntries decodeHeader sector storeAt newVolume newFiles repeated sectorAfter encodeTable fileBytes encodeRecord entryBytes encodeHeader padded
 sound-counts = refl
 
 -- The length and sector 0 alone: each byte that is wrong there is found, and so is a byte too many or too few, one sector fewer than
@@ -173,14 +173,14 @@ sound-counts = refl
 tables-sound : map tableSoundIn (tiny ∷ map (λ (x : ℕ × ℕ). set tiny x.0 x.1)
     ((258, 3) ∷ (256, 0) ∷ (511, 1) ∷ (768, 0) ∷ (1023, 1) ∷ (1279, 1) ∷ (2047, 1) ∷ []))
     ≡ replicate 8 true
-unfolding tableSoundIn all table_of decodeTable decodeFiles sector newVolume newFiles repeated sectorAfter encodeTable fileBytes encodeRecord entryBytes encodeHeader padded
+unfolding tableSoundIn all tableOf decodeTable decodeFiles sector newVolume newFiles repeated sectorAfter encodeTable fileBytes encodeRecord entryBytes encodeHeader padded
 tables-sound = refl
 
 tables-unsound : map (λ (x : ℕ × ℕ). tableSoundIn (set tiny x.0 x.1))
     ((0, 0) ∷ (1, 0x49) ∷ (2, 9) ∷ (3, 1) ∷ (4, 0) ∷ (4, 5) ∷ (5, 0) ∷ (5, 1) ∷ (6, 1) ∷ (7, 1) ∷ (8, 4) ∷ (10, 0) ∷ (10, 2) ∷ (11, 2) ∷ (12, 6) ∷ (15, 3) ∷ (16, 1) ∷ (255, 1) ∷ [])
     ++ map tableSoundIn ((tiny ++ (0 ∷ [])) ∷ take 2047 tiny ∷ set (take 1536 tiny) 2 6 ∷ take 255 tiny ∷ [] ∷ [])
     ≡ replicate 23 false
-unfolding tableSoundIn all table_of decodeTable decodeFiles sector newVolume newFiles repeated sectorAfter encodeTable fileBytes encodeRecord entryBytes encodeHeader padded
+unfolding tableSoundIn all tableOf decodeTable decodeFiles sector newVolume newFiles repeated sectorAfter encodeTable fileBytes encodeRecord entryBytes encodeHeader padded
 tables-unsound = refl
 
 -- ------------------------------------------------------------------ WellFormed

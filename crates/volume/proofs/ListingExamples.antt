@@ -38,10 +38,10 @@ unfolding fileLine decimal
 file-line = refl
 
 -- A line for each client, then one for each file, each with its own record and header.
-all_lines : listing (changedBy before (setRecord 2 opened ∷ setHeader 3 (header 4 []) ∷ []))
+all-lines : listing (changedBy before (setRecord 2 opened ∷ setHeader 3 (header 4 []) ∷ []))
     ≡ clientLine 1 1 0 ++ (clientLine 2 1 1 ++ (fileLine 1 1 2 3 ++ (fileLine 2 1 1 3 ++ fileLine 3 4 1 1)))
 unfolding listing clientLine fileLine decimal
-all_lines = refl
+all-lines = refl
 
 -- `too long`, `not sound`
 texts : tooLongText ∷ notSoundText ∷ []
@@ -54,6 +54,6 @@ longest : (v : Volume) → length v ≡ 65536 → printed v ≡ (if sound v then
 unfolding printed
 longest v e = rw e
 
-too_long : (v : Volume) → length v ≡ 65537 → printed v ≡ tooLongText
+too-long : (v : Volume) → length v ≡ 65537 → printed v ≡ tooLongText
 unfolding printed
-too_long v e = rw e
+too-long v e = rw e

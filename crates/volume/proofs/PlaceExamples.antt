@@ -11,9 +11,9 @@ use Rattle.sector.specs.Sectors.{sector, storeAt, padded}
 use Rattle.sector.specs.Encoding.{fileBytes, encodeTable, entryBytes, encodeRecord, encodeHeader}
 use Rattle.sector.specs.Decoding.{decodeFiles, decodeTable, decodeEntries, decodeRecord, decodeHeader}
 use Rattle.volume.specs.Places.{isClient, clientNumbers, isFile, fileNumbers, fileAt, IsClient, IsFile, IsPage, sectorAfter, headerSector, endSector, tablePlace, recordPlace, headerPlace, slotPlace, sectorOf}
-use Rattle.volume.specs.Views.{View, no_header, setRecord, setHeader, setSlot, place_of, changed, changedBy}
-use Rattle.volume.specs.Volumes.{Volume, table_of, recordIn, headerIn, slotIn, view}
-use Rattle.volume.specs.Stores.{cut_at, stores_of, updated, allStores}
+use Rattle.volume.specs.Views.{View, noHeader, setRecord, setHeader, setSlot, placeOf, changed, changedBy}
+use Rattle.volume.specs.Volumes.{Volume, tableOf, recordIn, headerIn, slotIn, view}
+use Rattle.volume.specs.Stores.{cutAt, storesOf, updated, allStores}
 use Rattle.volume.specs.Format.{repeated, newFiles, newVolume}
 
 abbrev pub file : (pages : ℕ) → (slots : ℕ) → File
@@ -93,19 +93,19 @@ abbrev pub before : View
 before = record { table = threeFiles; records = λ k. rec 1 []; headers = λ f. header 1 (0 ∷ []); slots = λ f r. f ∷ r ∷ [] }
 
 -- "A number that names nothing has an empty one."
-no-header : no_header ≡ header 0 []
+no-header : noHeader ≡ header 0 []
 no-header = refl
 
-places_of : map place_of (setRecord 3 idleRecord ∷ setHeader 2 no_header ∷ setSlot 2 1 [] ∷ [])
+places-of : map placeOf (setRecord 3 idleRecord ∷ setHeader 2 noHeader ∷ setSlot 2 1 [] ∷ [])
     ≡ recordPlace 3 ∷ headerPlace 2 ∷ slotPlace 2 1 ∷ []
-places_of = refl
+places-of = refl
 
 -- One record, one header, one slot changes, and nothing beside it.
 record-changed : map (changed before (setRecord 2 idleRecord)).records (1 ∷ 2 ∷ 3 ∷ []) ≡ rec 1 [] ∷ idleRecord ∷ rec 1 [] ∷ []
 record-changed = refl
 
-header-changed : map (changed before (setHeader 2 no_header)).headers (1 ∷ 2 ∷ 3 ∷ [])
-    ≡ header 1 (0 ∷ []) ∷ no_header ∷ header 1 (0 ∷ []) ∷ []
+header-changed : map (changed before (setHeader 2 noHeader)).headers (1 ∷ 2 ∷ 3 ∷ [])
+    ≡ header 1 (0 ∷ []) ∷ noHeader ∷ header 1 (0 ∷ []) ∷ []
 header-changed = refl
 
 slot-changed : let a = changed before (setSlot 2 1 []) in
@@ -113,7 +113,7 @@ slot-changed : let a = changed before (setSlot 2 1 []) in
 slot-changed = refl
 
 rest-unchanged : let r = changed before (setRecord 2 idleRecord) in
-    let h = changed before (setHeader 2 no_header) in
+    let h = changed before (setHeader 2 noHeader) in
     let d = changed before (setSlot 2 1 []) in
     (r.table ∷ h.table ∷ d.table ∷ [] ≡ threeFiles ∷ threeFiles ∷ threeFiles ∷ [])
     × (h.records 2 ∷ d.records 2 ∷ [] ≡ rec 1 [] ∷ rec 1 [] ∷ [])
@@ -137,7 +137,7 @@ unfolding allStores sectorAfter
 stores-of = refl
 
 -- The first so many are made, the first one first: of two stores into a sector the later one stays.
-cut-in-order : map (cut_at (replicate 512 1) (record { target = 1; bytes = replicate 256 2 }
+cut-in-order : map (cutAt (replicate 512 1) (record { target = 1; bytes = replicate 256 2 }
     ∷ record { target = 0; bytes = replicate 256 3 } ∷ record { target = 1; bytes = replicate 256 4 } ∷ [])) (0 ∷ 1 ∷ 2 ∷ 3 ∷ 4 ∷ [])
     ≡ replicate 512 1
     ∷ (replicate 256 1 ++ replicate 256 2)
@@ -145,13 +145,13 @@ cut-in-order : map (cut_at (replicate 512 1) (record { target = 1; bytes = repli
     ∷ (replicate 256 3 ++ replicate 256 4)
     ∷ (replicate 256 3 ++ replicate 256 4)
     ∷ []
-unfolding cut_at storeAt
+unfolding cutAt storeAt
 cut-in-order = refl
 
 -- An update makes its one store.
 update-stored : updated threeFiles (replicate 1024 0) (setRecord 2 (rec 1 []))
-    ≡ cut_at (replicate 1024 0) (stores_of threeFiles (setRecord 2 (rec 1 []))) 1
-unfolding cut_at
+    ≡ cutAt (replicate 1024 0) (storesOf threeFiles (setRecord 2 (rec 1 []))) 1
+unfolding cutAt
 update-stored = refl
 
 -- ------------------------------------------------------------------ Volumes
@@ -164,7 +164,7 @@ abbrev pub opened : Record
 opened = rec 1 (entry 1 0 2 ∷ [])
 
 abbrev small : Volume
-small = cut_at (newVolume smallTable)
+small = cutAt (newVolume smallTable)
     (record { target = 1; bytes = encodeRecord opened }
     ∷ record { target = 3; bytes = encodeHeader (file 2 3) (header 1 (0 ∷ 1 ∷ [])) }
     ∷ record { target = 6; bytes = replicate 256 0xA1 }
@@ -175,18 +175,18 @@ small = cut_at (newVolume smallTable)
 small-view : let a = view small in
     (a.table ≡ smallTable)
     × (map a.records (0 ∷ 1 ∷ 2 ∷ 3 ∷ []) ≡ idleRecord ∷ opened ∷ idleRecord ∷ idleRecord ∷ [])
-    × (map a.headers (0 ∷ 1 ∷ 2 ∷ 3 ∷ []) ≡ no_header ∷ header 1 (0 ∷ 1 ∷ []) ∷ header 0 (0 ∷ []) ∷ no_header ∷ [])
-unfolding view table_of recordIn headerIn decodeTable decodeFiles decodeRecord decodeEntries decodeHeader sector cut_at storeAt newVolume newFiles repeated sectorAfter encodeTable fileBytes encodeRecord entryBytes encodeHeader padded
+    × (map a.headers (0 ∷ 1 ∷ 2 ∷ 3 ∷ []) ≡ noHeader ∷ header 1 (0 ∷ 1 ∷ []) ∷ header 0 (0 ∷ []) ∷ noHeader ∷ [])
+unfolding view tableOf recordIn headerIn decodeTable decodeFiles decodeRecord decodeEntries decodeHeader sector cutAt storeAt newVolume newFiles repeated sectorAfter encodeTable fileBytes encodeRecord entryBytes encodeHeader padded
 small-view = (refl, refl, refl)
 
 -- The table is read from sector 0 alone: a 63rd file would lie in the next one.
-table-in-sector-0 : map (λ i. get_or (table_of (replicate 512 63)).files i (file 1 1)) (61 ∷ 62 ∷ []) ≡ file 63 63 ∷ file 0 0 ∷ []
-unfolding table_of decodeTable decodeFiles sector
+table-in-sector-0 : map (λ i. get_or (tableOf (replicate 512 63)).files i (file 1 1)) (61 ∷ 62 ∷ []) ≡ file 63 63 ∷ file 0 0 ∷ []
+unfolding tableOf decodeTable decodeFiles sector
 table-in-sector-0 = refl
 
 -- Slots 0 and 2 of file 1; its slot 3, and slot 0 of a file 0 or 3, aren't there.
 small-slots : let a = view small in
     a.slots 1 0 ∷ a.slots 1 2 ∷ a.slots 1 3 ∷ a.slots 0 0 ∷ a.slots 3 0 ∷ []
     ≡ replicate 256 0 ∷ replicate 256 0xA1 ∷ [] ∷ [] ∷ [] ∷ []
-unfolding view table_of slotIn decodeTable decodeFiles sector cut_at storeAt newVolume newFiles repeated sectorAfter encodeTable fileBytes encodeRecord entryBytes encodeHeader padded
+unfolding view tableOf slotIn decodeTable decodeFiles sector cutAt storeAt newVolume newFiles repeated sectorAfter encodeTable fileBytes encodeRecord entryBytes encodeHeader padded
 small-slots = refl

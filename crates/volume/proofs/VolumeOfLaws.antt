@@ -5,7 +5,7 @@ use mathlib.Core.Bool.{true}
 use Prim.Native.Nat.{ℕ, ◌+◌, ◌*◌, ◌≤◌, ◌<◌}
 use native.Mathlib.Omega.{arith}
 use lib.ListN.{length, drop}
-use Rattle.lists.proofs.ListLaws.{same_refl}
+use Rattle.lists.proofs.ListLaws.{same-refl}
 use Rattle.lists.proofs.TestLaws.{iff}
 use Rattle.sector.specs.Layout.{itemsRoom, entryLimit}
 use Rattle.sector.specs.Contents.{Bytes, Table, Record}
@@ -15,12 +15,12 @@ use Rattle.sector.proofs.CodecLaws.{table-back, table-length, record-back, recor
 use Rattle.volume.specs.Places.{fileAt, endSector, Place, tablePlace, recordPlace, headerPlace, slotPlace}
 use Rattle.volume.specs.Views.{View}
 use Rattle.volume.specs.Lawful.{recordFits, lawful}
-use Rattle.volume.specs.Volumes.{Volume, bytes_at, view}
+use Rattle.volume.specs.Volumes.{Volume, bytesAt, view}
 use Rattle.volume.specs.Sound.{sound}
 use Rattle.volume.specs.WellFormed.{WellFormed}
 use Rattle.volume.specs.Assembled.{bytesFor, volumeOf}
 use Rattle.volume.proofs.PlaceLaws.{IsFile, Exists}
-use Rattle.volume.proofs.AccessLaws.{table_is, record_is, header_is, slot_is}
+use Rattle.volume.proofs.AccessLaws.{table-is, record-is, header-is, slot-is}
 use Rattle.volume.proofs.LawfulLaws.{HolderFacts, HeaderFacts, Lawful, lawful-facts, facts-lawful}
 use Rattle.volume.proofs.CanonicalLaws.{isEncoding, Encoded, record-encoding, header-encoding}
 use Rattle.volume.proofs.WellFormedLaws.{lawful-fitting, formed-by}
@@ -62,34 +62,34 @@ module _ (a : View) (sized : Sized a) (rest : Bytes) where
   full (headerPlace f) i = header-length (fileAt a.table f) (a.headers f) (omega (arith, sized.maps f i, sized.pages f i))
   full (slotPlace f r) e = sized.slots f r e.0 e.1
 
-  of-bytes : (p : Place) → Exists a.table p → bytes_at a.table (volumeOf a rest) p ≡ bytesFor a p
+  of-bytes : (p : Place) → Exists a.table p → bytesAt a.table (volumeOf a rest) p ≡ bytesFor a p
   of-bytes p e = assembled-bytes a.table (bytesFor a) full rest p e
 
-  pub of_length : length (volumeOf a rest) ≡ 256 * endSector a.table + length rest
-  of_length = assembled-length a.table (bytesFor a) full rest
+  pub of-length : length (volumeOf a rest) ≡ 256 * endSector a.table + length rest
+  of-length = assembled-length a.table (bytesFor a) full rest
 
   -- ------------------------------------------------------------------ its view
   pub of-table : (view (volumeOf a rest)).table ≡ a.table
-  of-table = table_is (volumeOf a rest) ∙ ap decodeTable (of-bytes tablePlace tt) ∙ table-back a.table
+  of-table = table-is (volumeOf a rest) ∙ ap decodeTable (of-bytes tablePlace tt) ∙ table-back a.table
 
   pub of-record : (k : ℕ) → 1 ≤ k → k ≤ a.table.clients → (view (volumeOf a rest)).records k ≡ a.records k
   of-record k lo hi =
-      record_is (volumeOf a rest) k lo (rw of-table hi) ∙ ap decodeRecord (of-bytes (recordPlace k) (lo, hi)) ∙ record-back (a.records k)
+      record-is (volumeOf a rest) k lo (rw of-table hi) ∙ ap decodeRecord (of-bytes (recordPlace k) (lo, hi)) ∙ record-back (a.records k)
 
   pub of-header : (f : ℕ) → IsFile a.table f → (view (volumeOf a rest)).headers f ≡ a.headers f
   of-header f i =
-      header_is (volumeOf a rest) f (rw of-table i)
+      header-is (volumeOf a rest) f (rw of-table i)
       ∙ rw (of-table, of-bytes (headerPlace f) i) (header-back (fileAt a.table f) (a.headers f) (sized.maps f i))
 
   pub of-slot : (f r : ℕ) → IsFile a.table f → r < (fileAt a.table f).slots → (view (volumeOf a rest)).slots f r ≡ a.slots f r
-  of-slot f r i lt = slot_is (volumeOf a rest) f r (rw of-table i) (rw of-table lt) ∙ rw of-table (of-bytes (slotPlace f r) (i, lt))
+  of-slot f r i lt = slot-is (volumeOf a rest) f r (rw of-table i) (rw of-table lt) ∙ rw of-table (of-bytes (slotPlace f r) (i, lt))
 
   -- ------------------------------------------------------------------ it is sound just if its view is lawful
-  of-encoded : Encoded a.table (bytes_at a.table (volumeOf a rest))
+  of-encoded : Encoded a.table (bytesAt a.table (volumeOf a rest))
   of-encoded p e = ap (isEncoding a.table p) (of-bytes p e) ∙ go p e
     where
       go : (p : Place) → Exists a.table p → isEncoding a.table p (bytesFor a p) ≡ true
-      go tablePlace e = same_refl (encodeTable a.table)
+      go tablePlace e = same-refl (encodeTable a.table)
       go (recordPlace k) e = record-encoding (a.records k)
       go (headerPlace f) i = header-encoding a.table f (a.headers f) (sized.maps f i)
       go (slotPlace f r) e = refl
@@ -111,17 +111,17 @@ module _ (a : View) (sized : Sized a) (rest : Bytes) where
       let l = lawful-of ok in
       fine-sound v (record {
         laws = l;
-        formed = formed-by v (rw of-table (record { size = of_length ∙ size; ends = omega arith })) (rw of-table of-encoded) (lawful-fitting l);
+        formed = formed-by v (rw of-table (record { size = of-length ∙ size; ends = omega arith })) (rw of-table of-encoded) (lawful-fitting l);
       }))
 
 -- ------------------------------------------------------------------ a well-formed volume
 pub volume-back : (v : Volume) → WellFormed v → volumeOf (view v) (drop (256 * endSector (view v).table) v) ≡ v
 volume-back v formed =
-    assembled-same (view v).table (bytesFor (view v)) (bytes_at (view v).table v) same (drop (256 * endSector (view v).table) v)
+    assembled-same (view v).table (bytesFor (view v)) (bytesAt (view v).table v) same (drop (256 * endSector (view v).table) v)
     ∙ assembled-back (view v).table v
   where
-    same : (p : Place) → Exists (view v).table p → bytesFor (view v) p ≡ bytes_at (view v).table v p
+    same : (p : Place) → Exists (view v).table p → bytesFor (view v) p ≡ bytesAt (view v).table v p
     same tablePlace e = sym formed.tabled.table
     same (recordPlace k) e = sym (formed.record-bytes k e.0 e.1)
     same (headerPlace f) i = sym (formed.header-bytes f i.low i.high)
-    same (slotPlace f r) e = slot_is v f r e.0 e.1
+    same (slotPlace f r) e = slot-is v f r e.0 e.1

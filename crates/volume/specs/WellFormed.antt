@@ -6,7 +6,7 @@ use Rattle.sector.specs.Encoding.{encodeTable, encodeRecord, encodeHeader}
 use Rattle.volume.specs.Places.{IsClient, fileAt, endSector, tablePlace, recordPlace, headerPlace}
 use Rattle.volume.specs.Views.{View}
 use Rattle.volume.specs.Lawful.{tableFits, recordFits}
-use Rattle.volume.specs.Volumes.{Volume, bytes_at, view}
+use Rattle.volume.specs.Volumes.{Volume, bytesAt, view}
 
 -- The volume has the table's sectors, and room for all its places.
 pub record Shaped (t : Table) (v : Volume) : Type 0 where
@@ -17,7 +17,7 @@ pub record Shaped (t : Table) (v : Volume) : Type 0 where
 pub record TableFormedBy (a : View) (v : Volume) : Type 0 where
   pub shaped : Shaped a.table v
   pub fits : tableFits a.table ≡ true
-  pub table : bytes_at a.table v tablePlace ≡ encodeTable a.table
+  pub table : bytesAt a.table v tablePlace ≡ encodeTable a.table
 
 abbrev pub TableFormed : Volume → Type 0
 TableFormed v = TableFormedBy (view v) v
@@ -25,10 +25,10 @@ TableFormed v = TableFormedBy (view v) v
 -- All of it.
 pub record WellFormedBy (a : View) (v : Volume) : Type 0 where
   pub tabled : TableFormedBy a v
-  pub record-bytes : (k : ℕ) → 1 ≤ k → k ≤ a.table.clients → bytes_at a.table v (recordPlace k) ≡ encodeRecord (a.records k)
+  pub record-bytes : (k : ℕ) → 1 ≤ k → k ≤ a.table.clients → bytesAt a.table v (recordPlace k) ≡ encodeRecord (a.records k)
   pub record-fits : (k : ℕ) → 1 ≤ k → k ≤ a.table.clients → recordFits a.table (a.records k) ≡ true
   pub header-bytes : (f : ℕ) → 1 ≤ f → f ≤ length a.table.files
-      → bytes_at a.table v (headerPlace f) ≡ encodeHeader (fileAt a.table f) (a.headers f)
+      → bytesAt a.table v (headerPlace f) ≡ encodeHeader (fileAt a.table f) (a.headers f)
   pub map-size : (f : ℕ) → 1 ≤ f → f ≤ length a.table.files → length (a.headers f).map ≡ (fileAt a.table f).pages
 
 abbrev pub WellFormed : Volume → Type 0

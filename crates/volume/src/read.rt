@@ -6,13 +6,13 @@ ghost use Rattle.sector.specs.Layout.{sectorLimit, entryLimit};
 ghost use Rattle.sector.specs.Contents.{File, Table, Entry, Record, Header};
 ghost use Rattle.volume.specs.Places.{IsClient, IsFile, IsPage, fileAt, headerSector, tablePlace, recordPlace, headerPlace};
 ghost use Rattle.volume.specs.Views.{View};
-ghost use Rattle.volume.specs.Volumes.{bytes_at, view};
+ghost use Rattle.volume.specs.Volumes.{bytesAt, view};
 ghost use Rattle.volume.specs.WellFormed.{TableFormed, WellFormed, HasEntry, noEntry};
 
 // The table's bytes.
 pub fn table(v: &[u8]) -> &[u8]
     requires { TableFormed v.now }
-    ensures { (result.now ≡ bytes_at (view v.now).table v.now tablePlace) × (length result.now ≡ 256) }
+    ensures { (result.now ≡ bytesAt (view v.now).table v.now tablePlace) × (length result.now ≡ 256) }
 {
     sector::part(v, 0)
 }
@@ -63,7 +63,7 @@ pub fn header_sector(v: &[u8], f: u8) -> usize
 // The bytes of file f's header.
 pub fn header(v: &[u8], f: u8) -> &[u8]
     requires { TableFormed v.now × IsFile (view v.now).table f }
-    ensures { (result.now ≡ bytes_at (view v.now).table v.now (headerPlace f)) × (length result.now ≡ 256) }
+    ensures { (result.now ≡ bytesAt (view v.now).table v.now (headerPlace f)) × (length result.now ≡ 256) }
 {
     sector::part(v, header_sector(v, f))
 }
@@ -87,7 +87,7 @@ pub fn mapped_slot(v: &[u8], f: u8, p: u8) -> u8
 // The bytes of client k's intentions record.
 pub fn record(v: &[u8], k: u8) -> &[u8]
     requires { WellFormed v.now × IsClient (view v.now).table k }
-    ensures { (result.now ≡ bytes_at (view v.now).table v.now (recordPlace k)) × (length result.now ≡ 256) }
+    ensures { (result.now ≡ bytesAt (view v.now).table v.now (recordPlace k)) × (length result.now ≡ 256) }
 {
     sector::part(v, sector::wide(k))
 }

@@ -3,7 +3,7 @@ use Prim.Native.Nat.{◌-◌}
 use native.Mathlib.Omega.{arith}
 use borrow.Author.Rules.{rules}
 use lib.Count.{trailing_le}
-use Rattle.byteset.proofs.LowestLaws.{ones_below}
+use Rattle.byteset.proofs.LowestLaws.{ones-below}
 use Rattle.byteset.proofs.low_ones.Statement.{statement}
 use Rattle.byteset.proofs.low_ones.Tie as tie
 
@@ -11,7 +11,7 @@ cast-result : tie.Need-overflow-cast-result
 cast-result c = omega (arith, trailing_le 64 (18446744073709551615 - c.args.w))
 
 returns : tie.Need-returns
-returns c = ones_below 64 c.args.w (search rules)
+returns c = ones-below 64 c.args.w (search rules)
 
 pub low-ones-spec : {M : Type 1} → statement M
 low-ones-spec = tie.close (tie.spec cast-result returns)

@@ -2,8 +2,8 @@
 use mathlib.Core.Path.{sym, ap, ◌∙◌}
 use borrow.Author.Rules.{rules}
 use Rattle.rules.specs.Plans.{abort}
-use Rattle.calls.proofs.FactLaws.{call-formed, same_tests, acts}
-use Rattle.checks.specs.Verdicts.{number_of}
+use Rattle.calls.proofs.FactLaws.{call-formed, same-tests, acts}
+use Rattle.checks.specs.Verdicts.{numberOf}
 use Rattle.calls.proofs.AnswerLaws.{refused-call, ended-call}
 use Rattle.calls.proofs.abort.Statement.{statement}
 use Rattle.calls.proofs.abort.Tie as tie
@@ -12,8 +12,8 @@ abort-stores-requires : tie.Need-abort-stores-requires
 abort-stores-requires c κs =
     let q = c.before.before.before in
     let s = q.before.before.before in
-    let e = (ap number_of (sym c.before.enum_told.given.1) ∙ q.check-active.ensures ∙ same_tests s.args.volume.now s.args.session s.args.client) in
-    let w = acts s.args.volume.now s.args.session s.args.client (e ∙ sym (same_tests s.args.volume.now s.args.session s.args.client)) in
+    let e = (ap numberOf (sym c.before.enum_told.given.1) ∙ q.check-active.ensures ∙ same-tests s.args.volume.now s.args.session s.args.client) in
+    let w = acts s.args.volume.now s.args.session s.args.client (e ∙ sym (same-tests s.args.volume.now s.args.session s.args.client)) in
     (call-formed s.args.volume.now s.args.session (abort s.args.client) e, w.client, w.running)
 
 without-client-requires : tie.Need-without-client-requires
@@ -21,8 +21,8 @@ without-client-requires c κs =
     let b = c.before.before in
     let q = b.before.before.before.before in
     let s = q.before.before.before in
-    let e = (ap number_of (sym b.before.before.enum_told.given.1) ∙ q.check-active.ensures ∙ same_tests s.args.volume.now s.args.session s.args.client) in
-    let w = acts s.args.volume.now s.args.session s.args.client (e ∙ sym (same_tests s.args.volume.now s.args.session s.args.client)) in
+    let e = (ap numberOf (sym b.before.before.enum_told.given.1) ∙ q.check-active.ensures ∙ same-tests s.args.volume.now s.args.session s.args.client) in
+    let w = acts s.args.volume.now s.args.session s.args.client (e ∙ sym (same-tests s.args.volume.now s.args.session s.args.client)) in
     (w.client.low, w.few)
 
 returns : tie.Need-returns
@@ -30,14 +30,14 @@ returns c =
     let q = c.before.before.before.before in
     let s = q.before.before.before in
     let r = c.before.before.r.given in
-    c.refuse.ensures s.args.volume.now ∙ refused-call s.args.volume.now s.args.session (abort s.args.client) s.args.budget r.0.0 (ap number_of (sym r.1) ∙ q.check-active.ensures ∙ same_tests s.args.volume.now s.args.session s.args.client)
+    c.refuse.ensures s.args.volume.now ∙ refused-call s.args.volume.now s.args.session (abort s.args.client) s.args.budget r.0.0 (ap numberOf (sym r.1) ∙ q.check-active.ensures ∙ same-tests s.args.volume.now s.args.session s.args.client)
 
 returns-2 : tie.Need-returns-2
 returns-2 c =
     let b = c.before.before.before.before in
     let q = b.before.before.before.before in
     let s = q.before.before.before in
-    let e = (ap number_of (sym b.before.before.enum_told.given.1) ∙ q.check-active.ensures ∙ same_tests s.args.volume.now s.args.session s.args.client) in
+    let e = (ap numberOf (sym b.before.before.enum_told.given.1) ∙ q.check-active.ensures ∙ same-tests s.args.volume.now s.args.session s.args.client) in
     c.end.ensures b.abort-stores.new.0 ∙ rw c.before.without-client.ensures (ended-call s.args.volume.now s.args.session (abort s.args.client) s.args.budget e b.abort-stores.new.0 b.abort-stores.result (b.abort-stores.ensures s.args.session))
 
 pub abort-spec : {M : Type 1} → statement M

@@ -4,7 +4,7 @@ use mathlib.Core.Path.{sym, ap, ◌∙◌}
 use borrow.Author.Rules.{rules}
 use Rattle.rules.specs.Plans.{openRead}
 use Rattle.calls.proofs.FactLaws.{opens-read}
-use Rattle.checks.specs.Verdicts.{number_of}
+use Rattle.checks.specs.Verdicts.{numberOf}
 use Rattle.calls.proofs.AnswerLaws.{refused-call, ended-call}
 use Rattle.calls.proofs.open_read.Statement.{statement}
 use Rattle.calls.proofs.open_read.Tie as tie
@@ -13,7 +13,7 @@ with-hold-requires : tie.Need-with-hold-requires
 with-hold-requires c κs =
     let q = c.before.before.before in
     let s = q.before.before.before in
-    let w = opens-read s.args.volume.now s.args.session s.args.client s.args.file (ap number_of (sym c.before.enum_told.given.1) ∙ q.check-open-read.ensures) in
+    let w = opens-read s.args.volume.now s.args.session s.args.client s.args.file (ap numberOf (sym c.before.enum_told.given.1) ∙ q.check-open-read.ensures) in
     (w.sound, w.client.0, w.client.1, w.file)
 
 open-read-stores-requires : tie.Need-open-read-stores-requires
@@ -21,7 +21,7 @@ open-read-stores-requires c κs =
     let h = c.before in
     let q = h.before.before.before.before in
     let s = q.before.before.before in
-    let w = opens-read s.args.volume.now s.args.session s.args.client s.args.file (ap number_of (sym h.before.before.enum_told.given.1) ∙ q.check-open-read.ensures) in
+    let w = opens-read s.args.volume.now s.args.session s.args.client s.args.file (ap numberOf (sym h.before.before.enum_told.given.1) ∙ q.check-open-read.ensures) in
     (w.formed, w.file, w.header)
 
 returns : tie.Need-returns
@@ -29,7 +29,7 @@ returns c =
     let q = c.before.before.before.before in
     let s = q.before.before.before in
     let r = c.before.before.r.given in
-    c.refuse.ensures s.args.volume.now ∙ refused-call s.args.volume.now s.args.session (openRead s.args.client s.args.file) s.args.budget r.0.0 (ap number_of (sym r.1) ∙ q.check-open-read.ensures)
+    c.refuse.ensures s.args.volume.now ∙ refused-call s.args.volume.now s.args.session (openRead s.args.client s.args.file) s.args.budget r.0.0 (ap numberOf (sym r.1) ∙ q.check-open-read.ensures)
 
 returns-2 : tie.Need-returns-2
 returns-2 c =
@@ -37,7 +37,7 @@ returns-2 c =
     let h = b.before.before in
     let q = h.before.before.before.before in
     let s = q.before.before.before in
-    let e = (ap number_of (sym h.before.before.enum_told.given.1) ∙ q.check-open-read.ensures) in
+    let e = (ap numberOf (sym h.before.before.enum_told.given.1) ∙ q.check-open-read.ensures) in
     let w = opens-read s.args.volume.now s.args.session s.args.client s.args.file e in
     let y = b.open-read-stores in
     c.end.ensures y.new.0 ∙ rw h.with-hold.ensures (ended-call s.args.volume.now s.args.session (openRead s.args.client s.args.file) s.args.budget e y.new.0 y.result (y.ensures s.args.session w.free w.unread))

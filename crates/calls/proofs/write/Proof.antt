@@ -42,7 +42,7 @@ returns-2 c =
     let q = x.before.before in
     let s = q.before.before.before.before in
     let w = again-at _ _ _ _ (ap writeFound (sym x.slot.given.1) ∙ q.check-write.ensures) in
-    let y = b.write_again in
+    let y = b.write-again in
     c.end.ensures y.new.0
     ∙ ended-call s.args.volume.now s.args.session (write s.args.client s.args.file s.args.page s.args.bytes.now) s.args.budget w.accepted y.new.0 y.result (y.ensures s.args.session s.args.client s.args.page w.entry w.found w.slot)
 
@@ -53,7 +53,7 @@ returns-3 c =
     let q = x.before.before in
     let s = q.before.before.before.before in
     let w = new-at _ _ _ _ (ap writeFound (sym x.slot2.given.1) ∙ q.check-write.ensures) in
-    let y = b.write_new in
+    let y = b.write-new in
     c.end2.ensures y.new.0
     ∙ ended-call s.args.volume.now s.args.session (write s.args.client s.args.file s.args.page s.args.bytes.now) s.args.budget w.accepted y.new.0 y.result (y.ensures s.args.session)
 

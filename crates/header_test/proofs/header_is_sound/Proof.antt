@@ -26,7 +26,7 @@ returns c =
     let h = p.before in
     let s = h.before.before.before in
     let a = s.args in
-    let at = p.part.ensures.0 ∙ ap (sector a.v.now) (h.file-header.ensures.0 ∙ s.requires.0.header_is a.f s.requires.1 s.requires.2) in
+    let at = p.part.ensures.0 ∙ ap (sector a.v.now) (h.file-header.ensures.0 ∙ s.requires.0.header-is a.f s.requires.1 s.requires.2) in
     sym (no-header a.v.now a.table.now a.f s.requires.1 s.requires.2 _ at (sym c.before.is-header.ensures ∙ not-true _ c.if1.true))
 
 map-fits-requires : tie.Need-map-fits-requires
@@ -46,7 +46,7 @@ returns-2 c =
     let h = p.before in
     let s = h.before.before.before in
     let a = s.args in
-    let at = p.part.ensures.0 ∙ ap (sector a.v.now) (h.file-header.ensures.0 ∙ s.requires.0.header_is a.f s.requires.1 s.requires.2) in
+    let at = p.part.ensures.0 ∙ ap (sector a.v.now) (h.file-header.ensures.0 ∙ s.requires.0.header-is a.f s.requires.1 s.requires.2) in
     let is = sym e1.before.is-header.ensures ∙ not-false _ e1.if1.false in
     let no = rw (g.file-pages.ensures, r.file-slots.ensures) at (sym m.map-fits.ensures.tells ∙ not-true _ c.if2.true) in
     let few = s.requires.0.pages a.f s.requires.1 s.requires.2 in
@@ -64,7 +64,7 @@ returns-3 c =
     let h = p.before in
     let s = h.before.before.before in
     let a = s.args in
-    let at = p.part.ensures.0 ∙ ap (sector a.v.now) (h.file-header.ensures.0 ∙ s.requires.0.header_is a.f s.requires.1 s.requires.2) in
+    let at = p.part.ensures.0 ∙ ap (sector a.v.now) (h.file-header.ensures.0 ∙ s.requires.0.header-is a.f s.requires.1 s.requires.2) in
     let is = sym e1.before.is-header.ensures ∙ not-false _ e1.if1.false in
     let few = s.requires.0.pages a.f s.requires.1 s.requires.2 in
     let law = header-last a.v.now a.table.now a.f s.requires.1 s.requires.2 _ at is p.part.ensures.1 few in

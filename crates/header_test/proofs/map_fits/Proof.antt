@@ -7,8 +7,8 @@ use borrow.Author.Tests.{not-true, not-false}
 use lib.ListN.{drop}
 use Rattle.sector.specs.Decoding.{decodeHeader}
 use Rattle.header_test.specs.Header.{fileWith}
-use Rattle.table_test.proofs.DecodingLaws.{next-slot, no_slot}
-use Rattle.header_test.proofs.HeaderLaws.{MapLeft, map-all, slot-high, slot_twice, map_more, map-done}
+use Rattle.table_test.proofs.DecodingLaws.{next-slot, no-slot}
+use Rattle.header_test.proofs.HeaderLaws.{MapLeft, map-all, slot-high, slot-twice, map-more, map-done}
 use Rattle.header_test.proofs.map_fits.Statement.{statement}
 use Rattle.header_test.proofs.map_fits.Tie as tie
 
@@ -40,7 +40,7 @@ returns-2 c =
     let x = fileWith s.args.pages s.args.slots in
     let next = next-slot x s.args.d.now s.requires.0 s.requires.1 at.loop.p (omega (arith, at.before.wide.ensures.0)) in
     let was = rw r.map-slot.ensures at (sym put.0 ∙ not-true _ c.if2.true) in
-    slot_twice at.loop.invariant.1 _ _ next _ put.2 was
+    slot-twice at.loop.invariant.1 _ _ next _ put.2 was
 
 loop-again : tie.Need-loop-preserved invariant-loop decreases-loop
 loop-again c =
@@ -53,14 +53,14 @@ loop-again c =
     let next = next-slot x s.args.d.now s.requires.0 s.requires.1 at.loop.p (omega (arith, at.before.wide.ensures.0)) in
     let low = rw r.map-slot.ensures at e1.if1.false in
     let new = rw r.map-slot.ensures at (sym put.0 ∙ not-false _ c.if2.false) in
-    (omega arith, map_more at.loop.invariant.1 _ _ next low new (omega (arith, low)) _ put.2 (rw r.map-slot.ensures at put.1))
+    (omega arith, map-more at.loop.invariant.1 _ _ next low new (omega (arith, low)) _ put.2 (rw r.map-slot.ensures at put.1))
 
 returns-3 : tie.Need-returns-3 invariant-loop decreases-loop
 returns-3 c =
     let at = c.before in
     let s = at.before.before.before in
     let x = fileWith s.args.pages s.args.slots in
-    let end = no_slot x s.args.d.now s.requires.0 s.requires.1 at.loop.p (omega (arith, at.before.wide.ensures.0)) in
+    let end = no-slot x s.args.d.now s.requires.0 s.requires.1 at.loop.p (omega (arith, at.before.wide.ensures.0)) in
     map-done (rw end at at.loop.invariant.1)
 
 pub map-fits-spec : {M : Type 1} → statement M

@@ -6,8 +6,8 @@ use Prim.Native.Nat.{◌-◌, ◌≤◌}
 use borrow.Author.Tests.{not-true, not-false}
 use lib.ListN.{drop}
 use Rattle.sector.specs.Decoding.{decodeRecord}
-use Rattle.lists.proofs.TestLaws.{every_more, every-fails}
-use Rattle.sector.proofs.EditLaws.{entries_from}
+use Rattle.lists.proofs.TestLaws.{every-more, every-fails}
+use Rattle.sector.proofs.EditLaws.{entries-from}
 use Rattle.header_test.specs.Header.{slotApart, slotsApart}
 use Rattle.table_test.proofs.DecodingLaws.{no-entry}
 use Rattle.header_test.proofs.slots_apart.Statement.{statement}
@@ -30,7 +30,7 @@ returns c =
     let at = c.before.before.before in
     let z = at.before in
     let a = z.before.before.before.args in
-    let next = entries_from a.d.now at.loop.i (omega (arith, z.wide.ensures.0, z.before.record-count.ensures)) in
+    let next = entries-from a.d.now at.loop.i (omega (arith, z.wide.ensures.0, z.before.record-count.ensures)) in
     let no = sym c.before.slot_apart.ensures ∙ not-true _ c.if1.true in
     sym (every-fails (decodeRecord a.d.now).entries at.loop.i _ next _ (slotApart a.f a.seen.now) no at.loop.invariant.1)
 
@@ -39,9 +39,9 @@ loop-again c =
     let at = c.before.before.before in
     let z = at.before in
     let a = z.before.before.before.args in
-    let next = entries_from a.d.now at.loop.i (omega (arith, z.wide.ensures.0, z.before.record-count.ensures)) in
+    let next = entries-from a.d.now at.loop.i (omega (arith, z.wide.ensures.0, z.before.record-count.ensures)) in
     let yes = sym c.before.slot_apart.ensures ∙ not-false _ c.if1.false in
-    (omega arith, every_more (decodeRecord a.d.now).entries at.loop.i _ next _ (slotApart a.f a.seen.now) yes at.loop.invariant.1)
+    (omega arith, every-more (decodeRecord a.d.now).entries at.loop.i _ next _ (slotApart a.f a.seen.now) yes at.loop.invariant.1)
 
 returns-2 : tie.Need-returns-2 invariant-loop decreases-loop
 returns-2 c =

@@ -3,7 +3,7 @@
 use native.Mathlib.Omega.{arith}
 use borrow.Author.Rules.{rules}
 use Rattle.volume.proofs.WellFormedLaws.{sound-formed}
-use Rattle.listing.proofs.ListingLaws.{lines_fit, wrote-listing}
+use Rattle.listing.proofs.ListingLaws.{lines-fit, wrote-listing}
 use Rattle.listing.proofs.list_lines.Statement.{statement}
 use Rattle.listing.proofs.list_lines.Tie as tie
 
@@ -11,14 +11,14 @@ list-clients-requires : tie.Need-list-clients-requires
 list-clients-requires c κs =
     let s = c.before.before.before in
     let v = s.args.v.now in
-    (sound-formed v s.requires.0, omega (arith, lines_fit v s.requires.0))
+    (sound-formed v s.requires.0, omega (arith, lines-fit v s.requires.0))
 
 list-files-requires : tie.Need-list-files-requires
 list-files-requires c κs =
     let p = c.before.before.before in
     let s = p.before.before.before.before in
     let v = s.args.v.now in
-    (sound-formed v s.requires.0, omega (arith, lines_fit v s.requires.0))
+    (sound-formed v s.requires.0, omega (arith, lines-fit v s.requires.0))
 
 returns : tie.Need-returns
 returns c =

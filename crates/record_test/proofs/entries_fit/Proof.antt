@@ -6,9 +6,9 @@ use Prim.Native.Nat.{◌-◌, ◌≤◌}
 use borrow.Author.Tests.{not-true, not-false}
 use lib.ListN.{drop}
 use Rattle.sector.specs.Decoding.{entryIn, decodeTable, decodeRecord}
-use Rattle.sector.proofs.EditLaws.{entries_from}
+use Rattle.sector.proofs.EditLaws.{entries-from}
 use Rattle.table_test.proofs.DecodingLaws.{no-entry}
-use Rattle.record_test.proofs.RecordLaws.{few-files, placed, Left, left-all, entry-no, entry-twice, left-more, entries-done, entries_none}
+use Rattle.record_test.proofs.RecordLaws.{few-files, placed, Left, left-all, entry-no, entry-twice, left-more, entries-done, entries-none}
 use Rattle.record_test.proofs.entries_fit.Statement.{statement}
 use Rattle.record_test.proofs.entries_fit.Tie as tie
 
@@ -22,7 +22,7 @@ decreases-loop table d n pages₀ slots₀ i₀ pages slots i = n - i
 returns : tie.Need-returns invariant-loop decreases-loop
 returns c =
     let s = c.before.before.before in
-    sym (entries_none (decodeTable s.args.table.now) s.args.d.now (omega (arith, s.requires.3)))
+    sym (entries-none (decodeTable s.args.table.now) s.args.d.now (omega (arith, s.requires.3)))
 
 loop-holds : tie.Need-loop-init invariant-loop decreases-loop
 loop-holds c = (omega arith, left-all _ _)
@@ -36,7 +36,7 @@ returns-2 : tie.Need-returns-2 invariant-loop decreases-loop
 returns-2 c =
     let at = c.before.before.before in
     let s = at.before.before.before.before in
-    let next = entries_from s.args.d.now at.loop.i (omega (arith, s.requires.3)) in
+    let next = entries-from s.args.d.now at.loop.i (omega (arith, s.requires.3)) in
     let no = sym c.before.entry-fits.ensures ∙ not-true _ c.if2.true in
     sym (entry-no s.args.table.now s.requires.2 at.loop.invariant.1 _ _ next no)
 
@@ -53,7 +53,7 @@ returns-3 : tie.Need-returns-3 invariant-loop decreases-loop
 returns-3 c =
     let at = c.before.before.before.before.before.before.before in
     let s = at.before.before.before.before in
-    let next = entries_from s.args.d.now at.loop.i (omega (arith, s.requires.3)) in
+    let next = entries-from s.args.d.now at.loop.i (omega (arith, s.requires.3)) in
     let twice = sym c.before.insert_entry.ensures.tells ∙ not-true _ c.if3.true in
     sym (entry-twice s.args.table.now s.requires.2 at.loop.invariant.1 _ _ next twice)
 
@@ -63,7 +63,7 @@ loop-again c =
     let e2 = c.before.before.before.before in
     let at = e2.before.before.before in
     let s = at.before.before.before.before in
-    let next = entries_from s.args.d.now at.loop.i (omega (arith, s.requires.3)) in
+    let next = entries-from s.args.d.now at.loop.i (omega (arith, s.requires.3)) in
     let fits = sym e2.before.entry-fits.ensures ∙ not-false _ e2.if2.false in
     let new = sym put.tells ∙ not-false _ c.if3.false in
     (omega arith, rw (put.by-page, put.by-slot) (left-more s.args.table.now s.requires.2 at.loop.invariant.1 _ _ next fits new))

@@ -5,12 +5,12 @@ use mathlib.Core.Path.{sym, ◌∙◌}
 use borrow.Author.Tests.{not-true, not-false}
 use Rattle.sector.specs.Decoding.{decodeTable}
 use Rattle.sector.proofs.EncodedLaws.{record-few}
-use Rattle.record_test.proofs.RecordLaws.{no_record, record-last}
+use Rattle.record_test.proofs.RecordLaws.{no-record, record-last}
 use Rattle.record_test.proofs.record_is_sound.Statement.{statement}
 use Rattle.record_test.proofs.record_is_sound.Tie as tie
 
 returns : tie.Need-returns
-returns c = sym (no_record _ _ (sym c.before.is-record.ensures ∙ not-true _ c.if1.true))
+returns c = sym (no-record _ _ (sym c.before.is-record.ensures ∙ not-true _ c.if1.true))
 
 entries-fit-requires : tie.Need-entries-fit-requires
 entries-fit-requires c κs =

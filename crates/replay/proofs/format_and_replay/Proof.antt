@@ -6,7 +6,7 @@ use borrow.Author.Tests.{not-true, not-false}
 use lib.ListN.{length}
 use Rattle.atomicity.specs.Model.{newModel}
 use Rattle.replay.specs.Replays.{hasRoom}
-use Rattle.replay.proofs.RunLaws.{room_fits}
+use Rattle.replay.proofs.RunLaws.{room-fits}
 use Rattle.replay.proofs.Corollary.{claimed, not-formatted, run-formatted}
 use Rattle.replay.proofs.format_and_replay.Statement.{statement}
 use Rattle.replay.proofs.format_and_replay.Tie as tie
@@ -23,7 +23,7 @@ run-steps-requires : tie.Need-run-steps-requires
 run-steps-requires c κs =
     let e = c.before.before.before.before.before.before.before.before.before in
     let a = e.before.before.before.before.before.before.args in
-    room_fits a.script.now (length a.out.now) (sym e.before.has_room.ensures ∙ not-false _ e.if1.false)
+    room-fits a.script.now (length a.out.now) (sym e.before.has_room.ensures ∙ not-false _ e.if1.false)
 
 returns-2 : tie.Need-returns-2
 returns-2 c =

@@ -8,7 +8,7 @@ use lib.ListN.{length, drop, drop_of_length-le}
 use Rattle.lists.specs.Lists.{any}
 use Rattle.sector.specs.Contents.{Record}
 use Rattle.sector.specs.Entries.{givesSlot}
-use Rattle.lists.proofs.TestLaws.{drop-next, taken_more, taken-done}
+use Rattle.lists.proofs.TestLaws.{drop-next, taken-more, taken-done}
 use Rattle.volume.specs.Views.{View}
 use Rattle.volume.specs.Volumes.{view}
 use Rattle.volume.specs.WellFormed.{noEntry}
@@ -46,7 +46,7 @@ loop-again c =
     let next = drop-next _ at.loop.i noEntry lt in (
       omega (arith, l.loop-test.true),
       at.loop.invariant.1,
-      λ y. taken_more _ at.loop.i _ next _ (givesSlot s.args.f y) _ _ (at.loop.invariant.2 y) (c.take-entry.ensures.0 y),
+      λ y. taken-more _ at.loop.i _ next _ (givesSlot s.args.f y) _ _ (at.loop.invariant.2 y) (c.take-entry.ensures.0 y),
       c.take-entry.ensures.1,
     )
 

@@ -8,7 +8,7 @@ use lib.Dec.{eqb}
 use lib.ListN.{length, drop, drop_of_length-le}
 use Rattle.lists.specs.Lists.{member}
 use Rattle.sector.specs.Contents.{Header}
-use Rattle.lists.proofs.TestLaws.{drop-next, taken_more, taken-done}
+use Rattle.lists.proofs.TestLaws.{drop-next, taken-more, taken-done}
 use Rattle.volume.specs.Views.{View}
 use Rattle.volume.specs.Volumes.{view}
 use Rattle.byteset.specs.Set.{hasByte}
@@ -50,7 +50,7 @@ loop-again c =
     let next = drop-next {A = ℕ} _ at.loop.p 0 lt in (
       omega (arith, m.before.before.loop-test.true),
       at.loop.invariant.1,
-      rw c.add.ensures.0 (λ y. taken_more _ at.loop.p _ next _ (eqb y) (hasByte at.loop.taken y) _ (at.loop.invariant.2 y) (has-with at.loop.taken m.mapped-slot.result y room ∙ rw m.mapped-slot.ensures)),
+      rw c.add.ensures.0 (λ y. taken-more _ at.loop.p _ next _ (eqb y) (hasByte at.loop.taken y) _ (at.loop.invariant.2 y) (has-with at.loop.taken m.mapped-slot.result y room ∙ rw m.mapped-slot.ensures)),
       c.add.ensures.1,
     )
 

@@ -6,7 +6,7 @@ use Prim.Native.Nat.{◌+◌, ◌-◌, ◌≤◌}
 use borrow.Author.Tests.{not-true, not-false}
 use Rattle.lists.specs.Lists.{every, from}
 use Rattle.sector.specs.Decoding.{decodeTable}
-use Rattle.lists.proofs.TestLaws.{numbers_more, numbers-fail, numbers-done, numbers-none}
+use Rattle.lists.proofs.TestLaws.{numbers-more, numbers-fail, numbers-done, numbers-none}
 use Rattle.header_test.specs.Header.{headerSound}
 use Rattle.soundness.proofs.headers_are_sound.Statement.{statement}
 use Rattle.soundness.proofs.headers_are_sound.Tie as tie
@@ -42,7 +42,7 @@ loop-again c =
     let at = c.before.before.before in
     let a = at.before.before.before.args in
     let e = sym c.before.header-is-sound.ensures ∙ not-false _ c.if1.false in
-    (omega arith, omega arith, numbers_more (headerSound (decodeTable a.table.now) a.v.now) _ (a.n + 1) at.loop.f at.loop.invariant.2 (omega arith) e)
+    (omega arith, omega arith, numbers-more (headerSound (decodeTable a.table.now) a.v.now) _ (a.n + 1) at.loop.f at.loop.invariant.2 (omega arith) e)
 
 returns-2 : tie.Need-returns-2 invariant-loop decreases-loop
 returns-2 c =

@@ -6,7 +6,7 @@ use Prim.Native.Nat.{◌+◌, ◌-◌, ◌≤◌}
 use borrow.Author.Tests.{not-true, not-false}
 use Rattle.lists.specs.Lists.{every, from}
 use Rattle.sector.specs.Decoding.{decodeTable}
-use Rattle.lists.proofs.TestLaws.{numbers_more, numbers-fail, numbers-done, numbers-none}
+use Rattle.lists.proofs.TestLaws.{numbers-more, numbers-fail, numbers-done, numbers-none}
 use Rattle.record_test.specs.Record.{recordSound, recordSoundIn}
 use Rattle.soundness.proofs.records_are_sound.Statement.{statement}
 use Rattle.soundness.proofs.records_are_sound.Tie as tie
@@ -38,7 +38,7 @@ loop-again c =
     let a = at.before.before.before.args in
     let t = decodeTable a.table.now in
     let e = ap (recordSound t) (sym c.before.before.part.ensures.0) ∙ sym c.before.record-is-sound.ensures ∙ not-false _ c.if1.false in
-    (omega arith, omega arith, numbers_more (recordSoundIn t a.v.now) _ (a.n + 1) at.loop.k at.loop.invariant.2 (omega arith) e)
+    (omega arith, omega arith, numbers-more (recordSoundIn t a.v.now) _ (a.n + 1) at.loop.k at.loop.invariant.2 (omega arith) e)
 
 returns-2 : tie.Need-returns-2 invariant-loop decreases-loop
 returns-2 c =

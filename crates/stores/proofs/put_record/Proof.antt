@@ -1,6 +1,6 @@
 -- `put_record` meets its contract: the store is made if the run goes on.
 use borrow.Author.Rules.{rules}
-use Rattle.stores.proofs.MadeLaws.{put_going, put-made, put-short}
+use Rattle.stores.proofs.MadeLaws.{put-going, put-made, put-short}
 use Rattle.stores.proofs.put_record.Statement.{statement}
 use Rattle.stores.proofs.put_record.Tie as tie
 
@@ -9,7 +9,7 @@ store-record-requires c κs =
     let t = c.before in
     let n = t.before.before in
     let s = n.before.before.before in
-    let formed = s.requires.0 (put_going s.args.run n.count.ensures t.if1.true) in
+    let formed = s.requires.0 (put-going s.args.run n.count.ensures t.if1.true) in
     (formed.0, formed.1, s.requires.1)
 
 returns : tie.Need-returns

@@ -2,7 +2,7 @@
 use native.Mathlib.Omega.{arith}
 use borrow.Author.Rules.{rules}
 use lib.ListN.{length-set}
-use Rattle.text.proofs.WritesLaws.{one-digit, two_digits, three-digits, wrote_one, wrote-two, wrote-three}
+use Rattle.text.proofs.WritesLaws.{one-digit, two-digits, three-digits, wrote-one, wrote-two, wrote-three}
 use Rattle.text.proofs.put_number.Statement.{statement}
 use Rattle.text.proofs.put_number.Tie as tie
 
@@ -10,13 +10,13 @@ slice-write-out : tie.Need-slice-write-out
 slice-write-out c = omega (arith, one-digit c.before.args.n c.if1.true)
 
 returns : tie.Need-returns
-returns c = wrote_one c.before.args.out.now c.before.args.at c.before.args.n c.if1.true
+returns c = wrote-one c.before.args.out.now c.before.args.at c.before.args.n c.if1.true
 
 slice-write-out-2 : tie.Need-slice-write-out-2
-slice-write-out-2 c = omega (arith, two_digits c.before.before.args.n c.before.if1.false c.if2.true)
+slice-write-out-2 c = omega (arith, two-digits c.before.before.args.n c.before.if1.false c.if2.true)
 
 slice-write-out-3 : tie.Need-slice-write-out-3
-slice-write-out-3 c = simp length-set (omega (arith, two_digits c.before.before.args.n c.before.if1.false c.if2.true))
+slice-write-out-3 c = simp length-set (omega (arith, two-digits c.before.before.args.n c.before.if1.false c.if2.true))
 
 returns-2 : tie.Need-returns-2
 returns-2 c =

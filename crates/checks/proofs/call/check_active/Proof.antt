@@ -3,7 +3,7 @@ use mathlib.Core.Path.{refl, sym, ap, ◌∙◌}
 use mathlib.Core.Bool.{not}
 use borrow.Author.Rules.{rules}
 use Rattle.rules.specs.Refusals.{tests}
-use Rattle.lists.proofs.SearchLaws.{one_holds, one-fails}
+use Rattle.lists.proofs.SearchLaws.{one-holds, one-fails}
 use Rattle.checks.proofs.VerdictLaws.{accepted, refuses, accepts, client-low}
 use Rattle.checks.proofs.call.check_active.Statement.{statement}
 use Rattle.checks.proofs.call.check_active.Tie as tie
@@ -31,7 +31,7 @@ returns-3 : tie.Need-returns-3
 unfolding tests
 returns-3 c =
     let t = c.before.before in
-    accepts _ _ t.enum_told.given.1 t.before.before.check-client.ensures refl (one_holds _ (ap not (sym c.before.is-active.ensures ∙ c.if1.false)))
+    accepts _ _ t.enum_told.given.1 t.before.before.check-client.ensures refl (one-holds _ (ap not (sym c.before.is-active.ensures ∙ c.if1.false)))
 
 pub check-active-spec : {M : Type 1} → statement M
 check-active-spec = tie.close (tie.spec (λ c κs. search rules) check-client-requires (λ c. search rules)

@@ -2,7 +2,7 @@
 use mathlib.Core.Path.{refl, sym, ◌∙◌}
 use borrow.Author.Rules.{rules}
 use Rattle.rules.specs.Refusals.{tests}
-use Rattle.lists.proofs.SearchLaws.{one_holds, one-fails}
+use Rattle.lists.proofs.SearchLaws.{one-holds, one-fails}
 use Rattle.checks.proofs.VerdictLaws.{accepted, refuses, accepts, client-low}
 use Rattle.checks.proofs.call.check_begin.Statement.{statement}
 use Rattle.checks.proofs.call.check_begin.Tie as tie
@@ -20,7 +20,7 @@ returns : tie.Need-returns
 unfolding tests
 returns c =
     let t = c.before.before in
-    accepts _ _ t.enum_told.given.1 t.before.before.check-client.ensures refl (one_holds _ (sym c.before.is-active.ensures ∙ c.if1.true))
+    accepts _ _ t.enum_told.given.1 t.before.before.check-client.ensures refl (one-holds _ (sym c.before.is-active.ensures ∙ c.if1.true))
 
 returns-2 : tie.Need-returns-2
 unfolding tests

@@ -4,8 +4,8 @@ use borrow.Author.Rules.{rules}
 use borrow.Author.Tests.{eq-eqb, ne_eqb}
 use Rattle.lists.specs.Lists.{first}
 use Rattle.volume.specs.Volumes.{view}
-use Rattle.slots.specs.Slots.{slot_of}
-use Rattle.slots.proofs.SlotLaws.{entry_at, no-entry}
+use Rattle.slots.specs.Slots.{slotOf}
+use Rattle.slots.proofs.SlotLaws.{entry-at, no-entry}
 use Rattle.checks.specs.Writes.{again}
 use Rattle.checks.proofs.WriteVerdictLaws.{answerFor}
 use Rattle.checks.proofs.write.check_slot.Statement.{statement}
@@ -20,7 +20,7 @@ unfolding first
 returns-2 c =
     let q = c.before.before.before in
     let s = q.before.before.before.before in
-    let e = entry_at _ _ (ap slot_of (sym c.before.r.given.1) ∙ q.find-entry.ensures) in
+    let e = entry-at _ _ (ap slotOf (sym c.before.r.given.1) ∙ q.find-entry.ensures) in
     sym (ap (answerFor (view s.args.v.now) s.args.k s.args.f s.args.p s.args.bytes.now) e.found
     ∙ rw (eq-eqb _ 256 q.before.if1.false) (ap again e.slot))
 
@@ -29,7 +29,7 @@ unfolding first
 returns-3 c =
     let q = c.before.before.before in
     let s = q.before.before.before.before in
-    let e = no-entry _ (ap slot_of (sym c.before.enum_told.given.1) ∙ q.find-entry.ensures) in
+    let e = no-entry _ (ap slotOf (sym c.before.enum_told.given.1) ∙ q.find-entry.ensures) in
     sym (ap (answerFor (view s.args.v.now) s.args.k s.args.f s.args.p s.args.bytes.now) e
     ∙ rw (eq-eqb _ 256 q.before.if1.false) (sym c.new-slot.ensures))
 

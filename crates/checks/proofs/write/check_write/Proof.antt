@@ -3,7 +3,7 @@ use mathlib.Core.Path.{refl}
 use borrow.Author.Rules.{rules}
 use Rattle.rules.specs.Refusals.{tests}
 use Rattle.checks.proofs.VerdictLaws.{numbered, accepted, refuses, accepts}
-use Rattle.checks.proofs.WriteVerdictLaws.{write-formed, refused-answer, same_answer}
+use Rattle.checks.proofs.WriteVerdictLaws.{write-formed, refused-answer, same-answer}
 use Rattle.checks.proofs.write.check_write.Statement.{statement}
 use Rattle.checks.proofs.write.check_write.Tie as tie
 
@@ -20,7 +20,7 @@ returns c = refused-answer _ _ _ _ (numbered c.before.r.given.0.0) (refuses _ _ 
 returns-2 : tie.Need-returns-2
 unfolding tests
 returns-2 c =
-    same_answer _ _ _ _ _ (accepts _ _ c.before.enum_told.given.1 c.before.before.before.check-write-call.ensures refl refl) c.check-slot.ensures
+    same-answer _ _ _ _ _ (accepts _ _ c.before.enum_told.given.1 c.before.before.before.check-write-call.ensures refl refl) c.check-slot.ensures
 
 pub check-write-spec : {M : Type 1} → statement M
 check-write-spec = tie.close (tie.spec (λ c κs. search rules) (λ c. search rules) (λ c. search rules)

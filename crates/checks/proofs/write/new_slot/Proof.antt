@@ -6,7 +6,7 @@ use lib.ListN.{length}
 use Rattle.lists.specs.Lists.{first}
 use Rattle.sector.specs.Contents.{Record}
 use Rattle.volume.specs.Views.{View}
-use Rattle.slots.specs.Slots.{slot_of}
+use Rattle.slots.specs.Slots.{slotOf}
 use Rattle.volume.specs.Volumes.{view}
 use Rattle.rules.proofs.ChoiceLaws.{none-chosen, some-chosen}
 use Rattle.checks.specs.Writes.{new}
@@ -21,7 +21,7 @@ returns c =
     let q = r.before.before in
     let s = q.before.before in
     let count = n.wide.ensures.0 ∙ n.before.entry-count.ensures.0 in
-    let slot = some-chosen (view s.args.v.now) s.args.k s.args.f s.args.p _ (ap slot_of (sym r.r.given.1) ∙ q.free-slot.ensures) in
+    let slot = some-chosen (view s.args.v.now) s.args.k s.args.f s.args.p _ (ap slotOf (sym r.r.given.1) ∙ q.free-slot.ensures) in
     rw (slot.0, eq-eqb _ 62 (sym count ∙ c.if1.true))
 
 returns-2 : tie.Need-returns-2
@@ -29,7 +29,7 @@ unfolding first
 returns-2 c =
     let q = c.before.before in
     let s = q.before.before in
-    rw (none-chosen (view s.args.v.now) s.args.k s.args.f s.args.p (ap slot_of (sym c.enum_told.given.1) ∙ q.free-slot.ensures))
+    rw (none-chosen (view s.args.v.now) s.args.k s.args.f s.args.p (ap slotOf (sym c.enum_told.given.1) ∙ q.free-slot.ensures))
 
 returns-3 : tie.Need-returns-3
 unfolding first
@@ -39,7 +39,7 @@ returns-3 c =
     let q = r.before.before in
     let s = q.before.before in
     let count = n.wide.ensures.0 ∙ n.before.entry-count.ensures.0 in
-    let slot = some-chosen (view s.args.v.now) s.args.k s.args.f s.args.p _ (ap slot_of (sym r.r.given.1) ∙ q.free-slot.ensures) in
+    let slot = some-chosen (view s.args.v.now) s.args.k s.args.f s.args.p _ (ap slotOf (sym r.r.given.1) ∙ q.free-slot.ensures) in
     rw (slot.0, ne_eqb (length ((view s.args.v.now).records s.args.k).entries) 62 (λ e. c.if1.false (count ∙ e))) (ap new slot.1)
 
 pub new-slot-spec : {M : Type 1} → statement M

@@ -4,13 +4,13 @@ use Prim.Native.Nat.{◌+◌, ◌-◌, ◌≤◌}
 use native.Mathlib.Omega.{arith}
 use borrow.Author.Rules.{rules}
 use lib.ListN.{length, take, length-set, length-take}
-use Rattle.commands.specs.Lines.{byteArgument, shape_of}
+use Rattle.commands.specs.Lines.{byteArgument, shapeOf}
 use Rattle.commands.proofs.LineLaws.{values-none, values-more}
 use Rattle.commands.proofs.lines.fill_shape.Statement.{statement}
 use Rattle.commands.proofs.lines.fill_shape.Tie as tie
 
 abbrev invariant-loop : tie.invariant-loop
-invariant-loop buf₀ line n i₀ buf i = (i ≤ n) × (length buf ≡ 64) × (take i buf ≡ shape_of line i)
+invariant-loop buf₀ line n i₀ buf i = (i ≤ n) × (length buf ≡ 64) × (take i buf ≡ shapeOf line i)
 
 abbrev decreases-loop : tie.decreases-loop
 decreases-loop buf₀ line n i₀ buf i = n - i

@@ -2,7 +2,7 @@
 use mathlib.Core.Path.{sym, ap, ◌∙◌}
 use borrow.Author.Rules.{rules}
 use Rattle.atomicity.specs.Runs.{given}
-use Rattle.rules.specs.Calls.{part_of}
+use Rattle.rules.specs.Calls.{partOf}
 use Rattle.rules.proofs.CallLaws.{look-asked}
 use Rattle.commands.proofs.performer.page.Statement.{statement}
 use Rattle.commands.proofs.performer.page.Tie as tie
@@ -12,7 +12,7 @@ returns c =
     let l = c.before.before in
     let a = l.before.before.args in
     rw (sym l.is-look.ensures ∙ c.before.if1.true)
-    (c.look-part.ensures ∙ ap (part_of a.v.now) (sym (look-asked a.v.now (given a.c.crash a.s) a.c.file a.c.page)))
+    (c.look-part.ensures ∙ ap (partOf a.v.now) (sym (look-asked a.v.now (given a.c.crash a.s) a.c.file a.c.page)))
 
 returns-2 : tie.Need-returns-2
 returns-2 c =

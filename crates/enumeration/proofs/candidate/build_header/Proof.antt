@@ -7,7 +7,7 @@ use borrow.Author.Rules.{rules}
 use Rattle.sector.specs.Contents.{newHeader}
 use Rattle.sector.specs.Encoding.{encodeHeader}
 use Rattle.enumeration.specs.Choices.{smallFile}
-use Rattle.enumeration.proofs.ChoiceLaws.{maps-count, headers-count, header_made}
+use Rattle.enumeration.proofs.ChoiceLaws.{maps-count, headers-count, header-made}
 use Rattle.enumeration.proofs.candidate.build_header.Statement.{statement}
 use Rattle.enumeration.proofs.candidate.build_header.Tie as tie
 
@@ -32,8 +32,8 @@ returns c =
     let low : b < 18 = rw headers-count at s.requires.1 in
     let e1 = held.set-holder.ensures.0 smallFile (newHeader smallFile) new.new-header.ensures.0 in
     let e2 = first.set-map-slot.ensures.0 smallFile (record { holder = b / 9; map = 0 ∷ 1 ∷ [] }) e1 (omega arith) in
-    let e3 = second.set-map-slot2.ensures.0 smallFile (record { holder = b / 9; map = map.map_at.result.0 ∷ 1 ∷ [] }) e2 (omega arith) in
-    (e3 ∙ ap (encodeHeader smallFile) (header_made b map.map_at.result.0 map.map_at.result.1 low map.map_at.ensures), second.set-map-slot2.ensures.1)
+    let e3 = second.set-map-slot2.ensures.0 smallFile (record { holder = b / 9; map = map.map-at.result.0 ∷ 1 ∷ [] }) e2 (omega arith) in
+    (e3 ∙ ap (encodeHeader smallFile) (header-made b map.map-at.result.0 map.map-at.result.1 low map.map-at.ensures), second.set-map-slot2.ensures.1)
 
 pub build-header-spec : {M : Type 1} → statement M
 build-header-spec = tie.close (tie.spec map-at-requires (λ c. search rules) (λ c κs. search rules) cast-set-holder

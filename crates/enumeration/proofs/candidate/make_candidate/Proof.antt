@@ -3,7 +3,7 @@ use native.Mathlib.Omega.{arith}
 use Prim.Native.Nat.{◌<◌}
 use borrow.Author.Rules.{rules}
 use Rattle.enumeration.proofs.ChoiceLaws.{records-count, headers-count, candidates-count}
-use Rattle.enumeration.proofs.MadeLaws.{laid_out, candidate-made}
+use Rattle.enumeration.proofs.MadeLaws.{laid-out, candidate-made}
 use Rattle.enumeration.proofs.candidate.make_candidate.Statement.{statement}
 use Rattle.enumeration.proofs.candidate.make_candidate.Tie as tie
 
@@ -23,7 +23,7 @@ returns c =
     let f = r.before.before.before.before in
     let s = f.before.before.before.before in
     candidate-made f.format.new.0 r.put_record.new.0 h.put-header.new.0 s.args.i s.requires.1
-    (laid_out s.args.v.now _ s.requires.0 f.format.ensures) r.put_record.ensures h.put-header.ensures
+    (laid-out s.args.v.now _ s.requires.0 f.format.ensures) r.put_record.ensures h.put-header.ensures
 
 pub make-candidate-spec : {M : Type 1} → statement M
 make-candidate-spec = tie.close (tie.spec (λ c. search rules) (λ c κs. search rules) put-record-requires put-header-requires (λ c. search rules) returns)

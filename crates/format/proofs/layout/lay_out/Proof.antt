@@ -5,10 +5,10 @@ use native.Mathlib.Omega.{arith}
 use borrow.Author.Rules.{rules}
 use lib.ListN.{length, replicate}
 use Rattle.sector.specs.Layout.{entryLimit}
-use Rattle.sector.specs.Shapes.{files_of}
+use Rattle.sector.specs.Shapes.{filesOf}
 use Rattle.volume.specs.Format.{tableFor}
 use Rattle.sector.proofs.ShapeLaws.{files-count}
-use Rattle.format.proofs.LayoutLaws.{laid_out}
+use Rattle.format.proofs.LayoutLaws.{laid-out}
 use Rattle.format.proofs.FormatLaws.{fits-room}
 use Rattle.format.proofs.layout.lay_out.Statement.{statement}
 use Rattle.format.proofs.layout.lay_out.Tie as tie
@@ -41,8 +41,8 @@ returns c =
     let l = s.args.shape.now in
     let zeros = k.clear.ensures ∙ ap (λ (m : ℕ). replicate {A = ℕ} m 0) s.requires.size in
     let kept : length k.clear.new.0 ≡ n = omega arith in
-    let few : length (files_of l) ≤ entryLimit = omega (arith, files-count l) in
-    laid_out (tableFor n s.args.clients l) k.clear.new.0 r.put-records.new.0 f.put-files.new.0
+    let few : length (filesOf l) ≤ entryLimit = omega (arith, files-count l) in
+    laid-out (tableFor n s.args.clients l) k.clear.new.0 r.put-records.new.0 f.put-files.new.0
     zeros few s.requires.files s.requires.ends
     (rw (r.before.wide.ensures.0, t.put-table.ensures, kept) at r.put-records.ensures.0) (rw f.before.wide2.ensures.0 at f.put-files.ensures)
 

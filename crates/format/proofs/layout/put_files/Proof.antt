@@ -10,21 +10,21 @@ use lib.ListN.{length, drop}
 use Rattle.lists.specs.Lists.{every}
 use Rattle.volume.specs.Places.{sectorAfter}
 use Rattle.volume.specs.Lawful.{fileFits}
-use Rattle.sector.specs.Shapes.{files_of}
+use Rattle.sector.specs.Shapes.{filesOf}
 use Rattle.volume.specs.Format.{newFiles}
 use Rattle.sector.specs.Puts.{Puts}
 use Rattle.sector.proofs.PutsLaws.{puts-zeros}
 use Rattle.sector.proofs.ShapeLaws.{files-end}
-use Rattle.format.proofs.RequestLaws.{rest-fits, after_turn}
+use Rattle.format.proofs.RequestLaws.{rest-fits, after-turn}
 use Rattle.format.proofs.LayoutLaws.{files-turn, file-room, file-pages, file-slots}
 use Rattle.format.proofs.layout.put_files.Statement.{statement}
 use Rattle.format.proofs.layout.put_files.Tie as tie
 
 abbrev invariant-loop : tie.invariant-loop
 invariant-loop v₀ first shape n h₀ i₀ v h i =
-    (i ≤ n) × (n ≡ length shape / 2) × (length v ≡ length v₀) × (256 * sectorAfter h (drop i (files_of shape)) ≤ length v₀)
-    × (every fileFits (drop i (files_of shape)) ≡ true)
-    × ((w : List ℕ) → Puts (256 * h) (newFiles (drop i (files_of shape))) v w → Puts (256 * first) (newFiles (files_of shape)) v₀ w)
+    (i ≤ n) × (n ≡ length shape / 2) × (length v ≡ length v₀) × (256 * sectorAfter h (drop i (filesOf shape)) ≤ length v₀)
+    × (every fileFits (drop i (filesOf shape)) ≡ true)
+    × ((w : List ℕ) → Puts (256 * h) (newFiles (drop i (filesOf shape))) v w → Puts (256 * first) (newFiles (filesOf shape)) v₀ w)
 
 abbrev decreases-loop : tie.decreases-loop
 decreases-loop v₀ first shape n h₀ i₀ v h i = n - i
@@ -67,7 +67,7 @@ loop-again c =
       omega arith,
       refl,
       omega arith,
-      rw (c.wide.ensures.0, after_turn l at.loop.i at.loop.h lt) at.loop.invariant.3,
+      rw (c.wide.ensures.0, after-turn l at.loop.i at.loop.h lt) at.loop.invariant.3,
       rest-fits l at.loop.i lt at.loop.invariant.4,
       rw (c.wide.ensures.0, p.put-header.ensures) (λ w x. at.loop.invariant.5 w (turn w x)),
     )
@@ -77,7 +77,7 @@ unfolding newFiles
 returns c =
     let at = c.before in
     let l = at.before.before.before.args.shape.now in
-    let z : drop at.loop.i (files_of l) ≡ [] = files-end l at.loop.i (omega arith) in
+    let z : drop at.loop.i (filesOf l) ≡ [] = files-end l at.loop.i (omega arith) in
     at.loop.invariant.5 at.loop.v (rw z (puts-zeros (256 * at.loop.h) 0 at.loop.v))
 
 pub put-files-spec : {M : Type 1} → statement M

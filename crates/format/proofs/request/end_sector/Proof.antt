@@ -5,13 +5,13 @@ use native.Mathlib.Omega.{arith}
 use borrow.Author.Rules.{rules}
 use lib.ListN.{length, drop}
 use Rattle.volume.specs.Places.{sectorAfter}
-use Rattle.sector.specs.Shapes.{files_of}
-use Rattle.format.proofs.RequestLaws.{after_turn, after-end}
+use Rattle.sector.specs.Shapes.{filesOf}
+use Rattle.format.proofs.RequestLaws.{after-turn, after-end}
 use Rattle.format.proofs.request.end_sector.Statement.{statement}
 use Rattle.format.proofs.request.end_sector.Tie as tie
 
 abbrev invariant-loop : tie.invariant-loop
-invariant-loop clients shape n h₀ i₀ h i = (i ≤ n) × (n ≡ length shape / 2) × (h ≤ 256 + 256 * i) × (sectorAfter h (drop i (files_of shape)) ≡ sectorAfter (clients + 1) (files_of shape))
+invariant-loop clients shape n h₀ i₀ h i = (i ≤ n) × (n ≡ length shape / 2) × (h ≤ 256 + 256 * i) × (sectorAfter h (drop i (filesOf shape)) ≡ sectorAfter (clients + 1) (filesOf shape))
 
 abbrev decreases-loop : tie.decreases-loop
 decreases-loop clients shape n h₀ i₀ h i = n - i
@@ -22,7 +22,7 @@ loop-holds c = (omega arith, refl, omega arith, rw c.wide.ensures.0)
 loop-again : tie.Need-loop-preserved invariant-loop decreases-loop
 loop-again c =
     let at = c.before.before.before in
-    let turn = after_turn at.before.before.before.args.shape.now at.loop.i at.loop.h (omega arith) in
+    let turn = after-turn at.before.before.before.args.shape.now at.loop.i at.loop.h (omega arith) in
     (omega arith, refl, omega arith, rw c.wide2.ensures.0 (turn ∙ at.loop.invariant.3))
 
 returns : tie.Need-returns invariant-loop decreases-loop

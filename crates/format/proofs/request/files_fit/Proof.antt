@@ -7,13 +7,13 @@ use borrow.Author.Tests.{not-true, not-false}
 use lib.ListN.{length, drop}
 use Rattle.lists.specs.Lists.{every}
 use Rattle.volume.specs.Lawful.{fileFits}
-use Rattle.sector.specs.Shapes.{files_of}
+use Rattle.sector.specs.Shapes.{filesOf}
 use Rattle.format.proofs.RequestLaws.{fits-turn, fits-stop, fits-end}
 use Rattle.format.proofs.request.files_fit.Statement.{statement}
 use Rattle.format.proofs.request.files_fit.Tie as tie
 
 abbrev invariant-loop : tie.invariant-loop
-invariant-loop shape n i₀ i = (i ≤ n) × (n ≡ length shape / 2) × (every fileFits (files_of shape) ≡ every fileFits (drop i (files_of shape)))
+invariant-loop shape n i₀ i = (i ≤ n) × (n ≡ length shape / 2) × (every fileFits (filesOf shape) ≡ every fileFits (drop i (filesOf shape)))
 
 abbrev decreases-loop : tie.decreases-loop
 decreases-loop shape n i₀ i = n - i

@@ -1,7 +1,7 @@
 -- `free_header` meets its contract: the header as read, with holder 0, and its map redone if so told.
 use mathlib.Core.Path.{◌∙◌}
 use borrow.Author.Rules.{rules}
-use Rattle.recovery.proofs.HeaderLaws.{header_read, record-read, count-few, pages-low, pages-inside}
+use Rattle.recovery.proofs.HeaderLaws.{header-read, record-read, count-few, pages-low, pages-inside}
 use Rattle.recovery.proofs.release.free_header.Statement.{statement}
 use Rattle.recovery.proofs.release.free_header.Tie as tie
 
@@ -25,7 +25,7 @@ returns c =
     let s = l.before.before.before.before in
     let a = s.args in
     let d = record-read a.v.now s.requires.1 a.k s.requires.2 _ r.record.ensures.0 in
-    let read = header_read a.v.now s.requires.1 a.f s.requires.3 _ (l.load.ensures.0 ∙ l.before.header.ensures.0) in
+    let read = header-read a.v.now s.requires.1 a.f s.requires.3 _ (l.load.ensures.0 ∙ l.before.header.ensures.0) in
     let e = h.set-holder.ensures.0 _ _ read in
     let inside = pages-inside a.v.now s.requires.1 a.k s.requires.2 a.f s.requires.3 in
     (rw r.before.before.if1.true (rw d at (c.redo-map.ensures.0 _ _ e (rw d inside))), c.redo-map.ensures.1)
@@ -36,7 +36,7 @@ returns-2 c =
     let l = h.before.before in
     let s = l.before.before.before.before in
     let a = s.args in
-    let read = header_read a.v.now s.requires.1 a.f s.requires.3 _ (l.load.ensures.0 ∙ l.before.header.ensures.0) in
+    let read = header-read a.v.now s.requires.1 a.f s.requires.3 _ (l.load.ensures.0 ∙ l.before.header.ensures.0) in
     let e = h.set-holder.ensures.0 _ _ read in
     (rw c.if1.false e, h.set-holder.ensures.1)
 

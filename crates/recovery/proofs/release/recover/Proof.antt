@@ -2,16 +2,16 @@
 use mathlib.Core.Path.{sym, ◌∙◌}
 use native.Mathlib.Omega.{arith}
 use borrow.Author.Rules.{rules}
-use Rattle.lists.proofs.ListLaws.{no_both}
+use Rattle.lists.proofs.ListLaws.{no-both}
 use Rattle.volume.specs.Volumes.{view}
 use Rattle.volume.proofs.ReadLaws.{few-states}
-use Rattle.stores.proofs.MadeLaws.{all_none, made_none, made-crashed}
+use Rattle.stores.proofs.MadeLaws.{all-none, made-none, made-crashed}
 use Rattle.recovery.proofs.WorkLaws.{now-idle, now-open, now-decided}
 use Rattle.recovery.proofs.release.recover.Statement.{statement}
 use Rattle.recovery.proofs.release.recover.Tie as tie
 
 returns : tie.Need-returns
-returns c = (made-crashed c.if1.true, λ going. no_both _ c.if1.true going)
+returns c = (made-crashed c.if1.true, λ going. no-both _ c.if1.true going)
 
 state-requires : tie.Need-state-requires
 state-requires c κs =
@@ -34,7 +34,7 @@ returns-2 c =
     let e = st.before.before in
     let s = e.before.before in
     rw (now-idle (view s.args.v.now) s.args.k (sym st.state.ensures ∙ c.match.keys1))
-    (made_none, λ going. all_none (s.requires e.if1.false).0 (made_none {r = s.args.run}))
+    (made-none, λ going. all-none (s.requires e.if1.false).0 (made-none {r = s.args.run}))
 
 returns-3 : tie.Need-returns-3
 returns-3 c =

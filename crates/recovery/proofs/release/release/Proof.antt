@@ -5,7 +5,7 @@ use native.Mathlib.Omega.{arith}
 use borrow.Author.Rules.{rules}
 use lib.ListN.{length}
 use Rattle.volume.proofs.ReadLaws.{few-files}
-use Rattle.recovery.proofs.ReleaseLaws.{Turn, turn-start, turn-formed, turn-file, turn_more, turn_end}
+use Rattle.recovery.proofs.ReleaseLaws.{Turn, turn-start, turn-formed, turn-file, turn-more, turn-end}
 use Rattle.recovery.proofs.release.release.Statement.{statement}
 use Rattle.recovery.proofs.release.release.Tie as tie
 
@@ -35,22 +35,22 @@ loop-again : tie.Need-loop-preserved invariant-loop decreases-loop
 loop-again c =
     let o = c.before.before in
     let at = o.before.before.before in
-    (turn_more at.before.before.before.before.requires.1 at.loop.invariant.0 (omega arith) o.release-one.ensures, omega (arith, at.loop.invariant.1))
+    (turn-more at.before.before.before.before.requires.1 at.loop.invariant.0 (omega arith) o.release-one.ensures, omega (arith, at.loop.invariant.1))
 
 put-empty-record-requires : tie.Need-put-empty-record-requires invariant-loop decreases-loop
 put-empty-record-requires c κs =
     let at = c.before.before in
     turn-formed at.before.before.before.before.requires.1 at.loop.invariant.0
 
-same_length : tie.Need-same-length invariant-loop decreases-loop
-same_length c = omega (arith, c.before.before.before.before.before.loop.invariant.1)
+same-length : tie.Need-same-length invariant-loop decreases-loop
+same-length c = omega (arith, c.before.before.before.before.before.loop.invariant.1)
 
 returns : tie.Need-returns invariant-loop decreases-loop
 returns c =
     let p = c.before.before in
     let at = p.before.before.before in
-    turn_end at.before.before.before.before.requires.1 at.loop.invariant.0 (omega arith) p.put-empty-record.ensures
+    turn-end at.before.before.before.before.requires.1 at.loop.invariant.0 (omega arith) p.put-empty-record.ensures
 
 pub release_spec : {M : Type 1} → statement M
 release_spec = tie.close (tie.spec invariant-loop decreases-loop (λ c κs. search rules) loop-holds release-one-requires add-f
-    (λ c. search rules) loop-again put-empty-record-requires same_length returns)
+    (λ c. search rules) loop-again put-empty-record-requires same-length returns)

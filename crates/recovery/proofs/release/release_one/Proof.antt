@@ -2,7 +2,7 @@
 use mathlib.Core.Path.{sym, ◌∙◌}
 use borrow.Author.Rules.{rules}
 use Rattle.volume.specs.Volumes.{view}
-use Rattle.stores.proofs.MadeLaws.{made_none, made-crashed}
+use Rattle.stores.proofs.MadeLaws.{made-none, made-crashed}
 use Rattle.recovery.proofs.ReleaseLaws.{release-none, release-held}
 use Rattle.recovery.proofs.release.release_one.Statement.{statement}
 use Rattle.recovery.proofs.release.release_one.Tie as tie
@@ -20,7 +20,7 @@ returns-2 : tie.Need-returns-2
 returns-2 c =
     let h = c.before in
     let a = h.before.before.before.before.args in
-    rw (release-none a.redo (view a.v.now) a.k a.f (λ x. c.if2.true (h.holder.ensures ∙ x))) made_none
+    rw (release-none a.redo (view a.v.now) a.k a.f (λ x. c.if2.true (h.holder.ensures ∙ x))) made-none
 
 free-header-requires : tie.Need-free-header-requires
 free-header-requires c κs =

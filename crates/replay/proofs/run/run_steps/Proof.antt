@@ -5,19 +5,19 @@ use native.Mathlib.Omega.{arith}
 use borrow.Author.Rules.{rules}
 use lib.ListN.{length, drop}
 use Rattle.atomicity.specs.Model.{Model, newModel}
-use Rattle.commands.specs.Commands.{run_of}
+use Rattle.commands.specs.Commands.{runOf}
 use Rattle.replay.specs.Scripts.{steps}
 use Rattle.replay.specs.Transcripts.{transcriptLength}
 use Rattle.replay.specs.Walks.{stepLength}
-use Rattle.replay.proofs.ScriptLaws.{whole-step, no_step}
+use Rattle.replay.proofs.ScriptLaws.{whole-step, no-step}
 use Rattle.replay.proofs.TranscriptLaws.{wrote-length}
-use Rattle.replay.proofs.RunLaws.{Going, going_start, going_more, going_end, room-now, room-then}
+use Rattle.replay.proofs.RunLaws.{Going, going-start, going-more, going-end, room-now, room-then}
 use Rattle.replay.proofs.run.run_steps.Statement.{statement}
 use Rattle.replay.proofs.run.run_steps.Tie as tie
 
 abbrev invariant-loop : tie.invariant-loop
 invariant-loop v₀ script out₀ last₀ to₀ at₀ n₀ v out last to at n =
-    (at + n ≤ length script) × (n ≡ stepLength (drop at script)) × ((m : Model) → Going (run_of v₀ last₀ m) script out₀ v last at out to)
+    (at + n ≤ length script) × (n ≡ stepLength (drop at script)) × ((m : Model) → Going (runOf v₀ last₀ m) script out₀ v last at out to)
     × (to + transcriptLength (steps (drop at script)) ≤ length out₀) × (length out ≡ length out₀) × (length v ≡ length v₀)
 
 abbrev decreases-loop : tie.decreases-loop
@@ -26,7 +26,7 @@ decreases-loop v₀ script out₀ last₀ to₀ at₀ n₀ v out last to at n = 
 loop-holds : tie.Need-loop-init invariant-loop decreases-loop
 loop-holds c =
     let s = c.before.before.before.before in
-    (c.step-length.ensures.1, c.step-length.ensures.0, (λ m. going_start s.args.v.now s.args.s m s.args.script.now s.args.out.now), omega (arith, s.requires), refl, refl)
+    (c.step-length.ensures.1, c.step-length.ensures.0, (λ m. going-start s.args.v.now s.args.s m s.args.script.now s.args.out.now), omega (arith, s.requires), refl, refl)
 
 step-requires : tie.Need-step-requires invariant-loop decreases-loop
 step-requires c κs =
@@ -46,8 +46,8 @@ loop-again c =
     let e = (d.step.ensures newModel).entry in (
       c.step-length2.ensures.1,
       c.step-length2.ensures.0,
-      (λ m. going_more (i.invariant.2 m) w d.step.ensures),
-      room-then (run_of i.v i.last newModel) s.args.script.now i.at i.n i.to d.step.result.next (length s.args.out.now) w e.next i.invariant.3,
+      (λ m. going-more (i.invariant.2 m) w d.step.ensures),
+      room-then (runOf i.v i.last newModel) s.args.script.now i.at i.n i.to d.step.result.next (length s.args.out.now) w e.next i.invariant.3,
       wrote-length e ∙ i.invariant.4,
       search rules,
     )
@@ -57,7 +57,7 @@ returns c =
     let l = c.before in
     let s = l.before.before.before.before.before in
     let i = l.loop in
-    λ m. going_end (i.invariant.2 m) (no_step (drop i.at s.args.script.now) i.n i.invariant.1 (omega arith)) s.requires
+    λ m. going-end (i.invariant.2 m) (no-step (drop i.at s.args.script.now) i.n i.invariant.1 (omega arith)) s.requires
 
 pub run-steps-spec : {M : Type 1} → statement M
 run-steps-spec = tie.close (tie.spec invariant-loop decreases-loop (λ c κs. search rules) loop-holds step-requires (λ c. search rules)

@@ -4,7 +4,7 @@ use Prim.Native.Nat.{◌+◌}
 use native.Mathlib.Omega.{arith}
 use borrow.Author.Rules.{rules}
 use Rattle.replay.specs.Scripts.{commandIn}
-use Rattle.replay.proofs.ScriptLaws.{byte_at}
+use Rattle.replay.proofs.ScriptLaws.{byte-at}
 use Rattle.replay.proofs.steps.command_at.Statement.{statement}
 use Rattle.replay.proofs.steps.command_at.Tie as tie
 
@@ -17,7 +17,7 @@ returns c =
     let l = s.args.script.now in
     let at = s.args.at in
     let z : at + 0 ≡ at = omega arith in
-    rw (byte_at l at 0, z, byte_at l at 1, byte_at l at 2, byte_at l at 3, byte_at l at 4, byte_at l at 5, k.is-crash.ensures, a.action.ensures)
+    rw (byte-at l at 0, z, byte-at l at 1, byte-at l at 2, byte-at l at 3, byte-at l at 4, byte-at l at 5, k.is-crash.ensures, a.action.ensures)
 
 pub command-at-spec : {M : Type 1} → statement M
 command-at-spec = tie.close (tie.spec (λ c. search rules) (λ c κs. search rules) (λ c. search rules) (λ c. search rules)

@@ -9,7 +9,7 @@ use Rattle.replay.specs.Scripts.{steps}
 use Rattle.replay.specs.Transcripts.{transcriptLength}
 use Rattle.replay.specs.Replays.{hasRoom}
 use Rattle.replay.specs.Walks.{stepLength}
-use Rattle.replay.proofs.ScriptLaws.{whole-step, no_step}
+use Rattle.replay.proofs.ScriptLaws.{whole-step, no-step}
 use Rattle.replay.proofs.TranscriptLaws.{entry-is}
 use Rattle.replay.proofs.RunLaws.{room-left, room-over, room-none}
 use Rattle.replay.proofs.steps.has_room.Statement.{statement}
@@ -38,7 +38,7 @@ returns c =
     let l = e.before.before.before.before in
     let s = l.before.before.before.args.script.now in
     let w = whole-step (drop l.loop.at s) l.loop.n l.loop.invariant.1 (omega arith) in
-    sym (l.loop.invariant.2 ∙ room-over s l.loop.at l.loop.n l.loop.left e.entry_length.result w (entry-is l.loop.at s e.before.action.ensures e.entry_length.ensures) (omega arith))
+    sym (l.loop.invariant.2 ∙ room-over s l.loop.at l.loop.n l.loop.left e.entry-length.result w (entry-is l.loop.at s e.before.action.ensures e.entry-length.ensures) (omega arith))
 
 loop-again : tie.Need-loop-preserved invariant-loop decreases-loop
 loop-again c =
@@ -46,13 +46,13 @@ loop-again c =
     let l = e.before.before.before.before in
     let s = l.before.before.before.args.script.now in
     let w = whole-step (drop l.loop.at s) l.loop.n l.loop.invariant.1 (omega arith) in
-    (c.step-length2.ensures.1, c.step-length2.ensures.0, l.loop.invariant.2 ∙ room-left s l.loop.at l.loop.n l.loop.left e.entry_length.result w (entry-is l.loop.at s e.before.action.ensures e.entry_length.ensures) (omega arith))
+    (c.step-length2.ensures.1, c.step-length2.ensures.0, l.loop.invariant.2 ∙ room-left s l.loop.at l.loop.n l.loop.left e.entry-length.result w (entry-is l.loop.at s e.before.action.ensures e.entry-length.ensures) (omega arith))
 
 returns-2 : tie.Need-returns-2 invariant-loop decreases-loop
 returns-2 c =
     let l = c.before in
     let s = l.before.before.before.args.script.now in
-    sym (l.loop.invariant.2 ∙ room-none s l.loop.at l.loop.left (no_step (drop l.loop.at s) l.loop.n l.loop.invariant.1 (omega arith)))
+    sym (l.loop.invariant.2 ∙ room-none s l.loop.at l.loop.left (no-step (drop l.loop.at s) l.loop.n l.loop.invariant.1 (omega arith)))
 
 pub has-room-spec : {M : Type 1} → statement M
 has-room-spec = tie.close (tie.spec invariant-loop decreases-loop (λ c κs. search rules) loop-holds shared-slice-read-action

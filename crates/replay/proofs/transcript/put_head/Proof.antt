@@ -20,8 +20,8 @@ put-session-requires c κs =
     let s = p.before.before.before in
     omega (arith, s.requires.0, length-set s.args.out.now s.args.at s.args.kind, wrote-length p.put_word.ensures, p.put_word.ensures.next)
 
-same_length : tie.Need-same-length
-same_length c =
+same-length : tie.Need-same-length
+same-length c =
     let q = c.before.before in
     let p = q.before.before.before.before in
     let s = p.before.before.before in
@@ -36,4 +36,4 @@ returns c =
     wrote-more (wrote-byte s.args.out.now s.args.at s.args.kind) (wrote-more p.put_word.ensures q.put-session.ensures)
 
 pub put-head-spec : {M : Type 1} → statement M
-put-head-spec = tie.close (tie.spec (λ c. search rules) (λ c. search rules) put-word-requires put-session-requires same_length returns)
+put-head-spec = tie.close (tie.spec (λ c. search rules) (λ c. search rules) put-word-requires put-session-requires same-length returns)

@@ -7,7 +7,7 @@ use lib.ListN.{length}
 use Rattle.text.proofs.WritesLaws.{wrote-more}
 use Rattle.atomicity.specs.Runs.{given}
 use Rattle.commands.specs.Commands.{queryOf}
-use Rattle.replay.proofs.TranscriptLaws.{wrote-length, behind-head, refused-entry, inside_found, found-entry, shown-length}
+use Rattle.replay.proofs.TranscriptLaws.{wrote-length, behind-head, refused-entry, inside-found, found-entry, shown-length}
 use Rattle.replay.proofs.transcript.put_query.Statement.{statement}
 use Rattle.replay.proofs.transcript.put_query.Tie as tie
 
@@ -21,7 +21,7 @@ part-requires c κs =
     let t = c.before.before.before.before.before.before.before.before in
     let s = t.before.before.before.before in
     let a = s.args in
-    rw c.wide-word2.ensures.0 (inside_found a.v.now a.s a.c a.o a.q s.requires.1 t.o2.given.0.0 t.o2.given.1)
+    rw c.wide-word2.ensures.0 (inside-found a.v.now a.s a.c a.o a.q s.requires.1 t.o2.given.0.0 t.o2.given.1)
 
 put-requires : tie.Need-put-requires
 put-requires c κs =

@@ -18,8 +18,8 @@ put-words-requires-2 c κs =
     let s = m.before.before in
     omega (arith, s.requires, length-set s.args.out.now s.args.at m.marks-byte.result, wrote-length p.put-words.ensures, p.put-words.ensures.next)
 
-same_length : tie.Need-same-length
-same_length c =
+same-length : tie.Need-same-length
+same-length c =
     let q = c.before.before in
     let p = q.before.before.before.before.before.before in
     let m = p.before.before.before.before in
@@ -37,4 +37,4 @@ returns c =
 
 pub put-session-spec : {M : Type 1} → statement M
 put-session-spec = tie.close (tie.spec (λ c κs. search rules) (λ c. search rules) (λ c. search rules) (λ c. search rules)
-    (λ c. search rules) put-words-requires (λ c. search rules) (λ c. search rules) put-words-requires-2 same_length returns)
+    (λ c. search rules) put-words-requires (λ c. search rules) (λ c. search rules) put-words-requires-2 same-length returns)

@@ -5,7 +5,7 @@ use native.Mathlib.Omega.{arith}
 use borrow.Author.Rules.{rules}
 use lib.ListN.{length, drop}
 use Rattle.script.specs.Fields.{digitsFrom}
-use Rattle.script.proofs.FieldLaws.{digits-end, digits_low, digits-high, digits_more, digits-done}
+use Rattle.script.proofs.FieldLaws.{digits-end, digits-low, digits-high, digits-more, digits-done}
 use Rattle.script.proofs.fields.digits.Statement.{statement}
 use Rattle.script.proofs.fields.digits.Tie as tie
 
@@ -26,7 +26,7 @@ returns c =
 returns-2 : tie.Need-returns-2 invariant-loop decreases-loop
 returns-2 c =
     let l = c.before.before.before.before in
-    sym (l.loop.invariant.2 ∙ digits_low l.before.before.args.line.now l.loop.i (omega arith) l.loop.n c.before.if1.false c.if2.true)
+    sym (l.loop.invariant.2 ∙ digits-low l.before.before.args.line.now l.loop.i (omega arith) l.loop.n c.before.if1.false c.if2.true)
 
 returns-3 : tie.Need-returns-3 invariant-loop decreases-loop
 returns-3 c =
@@ -37,7 +37,7 @@ loop-again : tie.Need-loop-preserved invariant-loop decreases-loop
 loop-again c =
     let e = c.before in
     let l = e.before.before.before.before.before in
-    (omega arith, c.with-digit.ensures.1, l.loop.invariant.2 ∙ digits_more l.before.before.args.line.now l.loop.i (omega arith) l.loop.n e.before.before.if1.false (omega arith) (omega arith) ∙ rw c.with-digit.ensures.0)
+    (omega arith, c.with-digit.ensures.1, l.loop.invariant.2 ∙ digits-more l.before.before.args.line.now l.loop.i (omega arith) l.loop.n e.before.before.if1.false (omega arith) (omega arith) ∙ rw c.with-digit.ensures.0)
 
 returns-4 : tie.Need-returns-4 invariant-loop decreases-loop
 returns-4 c =

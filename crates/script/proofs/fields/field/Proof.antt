@@ -5,7 +5,7 @@ use native.Mathlib.Omega.{arith}
 use borrow.Author.Rules.{rules}
 use lib.ListN.{length, drop}
 use Rattle.script.specs.Fields.{fromField}
-use Rattle.script.proofs.FieldLaws.{field-first, field_next}
+use Rattle.script.proofs.FieldLaws.{field-first, field-next}
 use Rattle.script.proofs.fields.field.Statement.{statement}
 use Rattle.script.proofs.fields.field.Tie as tie
 
@@ -21,7 +21,7 @@ loop-holds c = (omega arith, omega arith, field-first _)
 loop-again : tie.Need-loop-preserved invariant-loop decreases-loop
 loop-again c =
     let l = c.before.before in
-    (omega arith, c.next_field.ensures.1, c.next_field.ensures.0 ∙ field_next l.before.before.args.line.now l.loop.i l.loop.at l.loop.invariant.2)
+    (omega arith, c.next_field.ensures.1, c.next_field.ensures.0 ∙ field-next l.before.before.args.line.now l.loop.i l.loop.at l.loop.invariant.2)
 
 returns : tie.Need-returns invariant-loop decreases-loop
 returns c =

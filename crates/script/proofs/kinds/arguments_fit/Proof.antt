@@ -8,7 +8,7 @@ use borrow.Author.Tests.{le-leb, lt-leb}
 use lib.Dec.{leb}
 use Rattle.lists.specs.Lists.{every, from}
 use Rattle.sector.specs.Contents.{Bytes}
-use Rattle.lists.proofs.TestLaws.{numbers_more, numbers-fail, numbers-done, numbers-none}
+use Rattle.lists.proofs.TestLaws.{numbers-more, numbers-fail, numbers-done, numbers-none}
 use Rattle.script.specs.declared.Row.{Row}
 use Rattle.script.specs.Fields.{argument}
 use Rattle.script.specs.Kinds.{limit, argumentsFit}
@@ -45,7 +45,7 @@ loop-again c =
     let l = r.before.before in
     let a = l.before.before.args in (
       omega arith,
-      numbers_more (fit a.line.now a.x) _ a.n l.loop.i l.loop.invariant.1 (omega arith)
+      numbers-more (fit a.line.now a.x) _ a.n l.loop.i l.loop.invariant.1 (omega arith)
           (rw (← r.argument.ensures, ← m.limit.ensures) (le-leb _ _ c.if1.false)),
     )
 

@@ -4,13 +4,13 @@ use Prim.Native.Nat.{◌-◌, ◌≤◌}
 use native.Mathlib.Omega.{arith}
 use borrow.Author.Rules.{rules}
 use lib.ListN.{length, drop}
-use Rattle.script.specs.Kinds.{rows, kindIn, kind_of}
+use Rattle.script.specs.Kinds.{rows, kindIn, kindOf}
 use Rattle.script.proofs.KindLaws.{kind-here, kind-later, kind-none}
 use Rattle.script.proofs.kinds.kind.Statement.{statement}
 use Rattle.script.proofs.kinds.kind.Tie as tie
 
 abbrev invariant-loop : tie.invariant-loop
-invariant-loop line i₀ i = (i ≤ length rows) × (kind_of line ≡ kindIn (drop i rows) line)
+invariant-loop line i₀ i = (i ≤ length rows) × (kindOf line ≡ kindIn (drop i rows) line)
 
 abbrev decreases-loop : tie.decreases-loop
 decreases-loop line i₀ i = length rows - i

@@ -3,7 +3,7 @@
 use mathlib.Core.Path.{refl}
 use borrow.Author.Rules.{rules}
 use Rattle.sector.specs.Sectors.{zeroSector}
-use Rattle.sector.specs.Shapes.{pair_at}
+use Rattle.sector.specs.Shapes.{pairAt}
 use Rattle.sector.proofs.FreshLaws.{header-built}
 use Rattle.sector.proofs.fresh.new_header.Statement.{statement}
 use Rattle.sector.proofs.fresh.new_header.Tie as tie
@@ -18,7 +18,7 @@ put-map-requires c κs = let s = c.before.before.before.before in (rw s.requires
 returns : tie.Need-returns
 returns c =
     let s = c.before.before.before.before.before in
-    let x = pair_at s.args.shape.now s.args.i in
+    let x = pairAt s.args.shape.now s.args.i in
     (header-built x _ s.requires.3 (rw s.requires.0 at c.put_map.ensures.0), c.put_map.ensures.1)
 
 pub new-header-spec : {M : Type 1} → statement M

@@ -5,7 +5,7 @@ use native.Mathlib.Omega.{arith}
 use borrow.Author.Rules.{rules}
 use lib.ListN.{length}
 use Rattle.sector.specs.Sectors.{zeroSector}
-use Rattle.sector.specs.Shapes.{files_of}
+use Rattle.sector.specs.Shapes.{filesOf}
 use Rattle.sector.proofs.ShapeLaws.{files-count}
 use Rattle.sector.proofs.FreshLaws.{table-built}
 use Rattle.sector.proofs.fresh.new_table.Statement.{statement}
@@ -23,7 +23,7 @@ returns c =
     let h = f.before in
     let s = h.before.before.before in
     let l = s.args.shape.now in
-    let count : f.low2.result ≡ length (files_of l) = omega (arith, files-count l) in
+    let count : f.low2.result ≡ length (filesOf l) = omega (arith, files-count l) in
     let built = table-built s.args.sectors s.args.clients f.low2.result l _ count s.requires.2 in
     (built (rw (s.requires.0, h.before.low.ensures, h.high.ensures, c.before.wide.ensures.0) at c.put_entries.ensures.0), c.put_entries.ensures.1)
 

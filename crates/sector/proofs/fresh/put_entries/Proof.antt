@@ -8,7 +8,7 @@ use borrow.Author.Rules.{rules}
 use lib.ListN.{length, drop}
 use Rattle.sector.specs.Layout.{itemsOffset, itemOffset}
 use Rattle.sector.specs.Encoding.{fileBytes}
-use Rattle.sector.specs.Shapes.{files_of}
+use Rattle.sector.specs.Shapes.{filesOf}
 use Rattle.sector.specs.Puts.{Puts}
 use Rattle.sector.proofs.PutsLaws.{puts-zeros}
 use Rattle.sector.proofs.ShapeLaws.{files-end}
@@ -19,7 +19,7 @@ use Rattle.sector.proofs.fresh.put_entries.Tie as tie
 abbrev invariant-loop : tie.invariant-loop
 invariant-loop buf₀ first shape n h₀ i₀ buf h i =
     (i ≤ n) × (n ≡ length shape / 2) × (h ≤ 256 + 256 * i) × (length buf ≡ 256)
-    × ((w : List ℕ) → Puts (itemOffset i) (fileBytes h (drop i (files_of shape))) buf w → Puts itemsOffset (fileBytes first (files_of shape)) buf₀ w)
+    × ((w : List ℕ) → Puts (itemOffset i) (fileBytes h (drop i (filesOf shape))) buf w → Puts itemsOffset (fileBytes first (filesOf shape)) buf₀ w)
 
 abbrev decreases-loop : tie.decreases-loop
 decreases-loop buf₀ first shape n h₀ i₀ buf h i = n - i
@@ -40,7 +40,7 @@ unfolding fileBytes
 returns c =
     let at = c.before in
     let l = at.before.before.args.shape.now in
-    let z : drop at.loop.i (files_of l) ≡ [] = files-end l at.loop.i (omega arith) in
+    let z : drop at.loop.i (filesOf l) ≡ [] = files-end l at.loop.i (omega arith) in
     (at.loop.invariant.4 _ (rw z (puts-zeros (itemOffset at.loop.i) 0 at.loop.buf)), at.loop.invariant.3)
 
 pub put-entries-spec : {M : Type 1} → statement M

@@ -2,7 +2,7 @@
 use mathlib.Core.Path.{sym, ◌∙◌}
 use borrow.Author.Rules.{rules}
 use Rattle.sector.specs.Decoding.{fileIn}
-use Rattle.sector.proofs.EncodedLaws.{header-other, header_is}
+use Rattle.sector.proofs.EncodedLaws.{header-other, header-is}
 use Rattle.sector.proofs.recognize.is_header.Statement.{statement}
 use Rattle.sector.proofs.recognize.is_header.Tie as tie
 
@@ -28,7 +28,7 @@ returns-2 c =
     let s = p.before.before.before in
     let a = s.args in
     let left = rw (f.before.header-spare.ensures, f.file-slots.ensures, p.file-pages.ensures) at w.before.if1.false in
-    c.has-frame.ensures ∙ rw (w.wide.ensures.0, p.file-pages.ensures) (sym (header_is (fileIn a.table.now a.i) a.d.now s.requires.0 s.requires.3 left))
+    c.has-frame.ensures ∙ rw (w.wide.ensures.0, p.file-pages.ensures) (sym (header-is (fileIn a.table.now a.i) a.d.now s.requires.0 s.requires.3 left))
 
 pub is-header-spec : {M : Type 1} → statement M
 is-header-spec = tie.close (tie.spec (λ c κs. search rules) (λ c κs. search rules) (λ c κs. search rules) sub-if1 returns

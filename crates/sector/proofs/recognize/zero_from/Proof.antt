@@ -8,7 +8,7 @@ use Prim.Native.Nat.{◌-◌}
 use lib.Dec.{eqb}
 use lib.ListN.{length, drop}
 use Rattle.sector.specs.Encoded.{allZero}
-use Rattle.sector.proofs.RecognizeLaws.{zero_more, zero-done}
+use Rattle.sector.proofs.RecognizeLaws.{zero-more, zero-done}
 use Rattle.sector.proofs.recognize.zero_from.Statement.{statement}
 use Rattle.sector.proofs.recognize.zero_from.Tie as tie
 
@@ -24,7 +24,7 @@ loop-holds c = refl
 loop-again : tie.Need-loop-preserved invariant-loop decreases-loop
 loop-again c =
     let at = c.before.before in
-    zero_more at.before.args.s.now _ at.loop.bits at.loop.i at.loop.invariant (omega arith)
+    zero-more at.before.args.s.now _ at.loop.bits at.loop.i at.loop.invariant (omega arith)
 
 returns : tie.Need-returns invariant-loop decreases-loop
 returns c =

@@ -31,8 +31,8 @@ loop-again c =
     let a = at.before.args in
     (omega arith, rw at.loop.invariant.1 (copy-turn a.src.now a.part.now at.loop.i (omega arith) (omega arith)), simp length-set at.loop.invariant.2)
 
-same_length : tie.Need-same-length invariant-loop decreases-loop
-same_length c = omega arith
+same-length : tie.Need-same-length invariant-loop decreases-loop
+same-length c = omega arith
 
 returns : tie.Need-returns invariant-loop decreases-loop
 returns c =
@@ -43,4 +43,4 @@ returns c =
 
 pub replace_spec : {M : Type 1} → statement M
 replace_spec = tie.close (tie.spec invariant-loop decreases-loop loop-holds (λ c. search rules) slice-write-part (λ c. search rules)
-    loop-less loop-again same_length returns)
+    loop-less loop-again same-length returns)

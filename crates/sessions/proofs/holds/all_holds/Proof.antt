@@ -10,9 +10,9 @@ use Rattle.rules.specs.Sessions.{filesRead}
 use Rattle.sessions.proofs.holds.all_holds.Statement.{statement}
 use Rattle.sessions.proofs.holds.all_holds.Tie as tie
 
-no_word : (a b c d : ℕ)
+no-word : (a b c d : ℕ)
     → eqb (a + 65536 * b + 4294967296 * c + 281474976710656 * d) 0 ≡ (eqb a 0 && (eqb b 0 && (eqb c 0 && (eqb d 0 && true))))
-no_word a b c d =
+no-word a b c d =
     let last = sum-zero (a + 65536 * b + 4294967296 * c) d 281474976710656 (omega arith) in
     let third = sum-zero (a + 65536 * b) c 4294967296 (omega arith) in
     rw (last, third, sum-zero a b 65536 (omega arith)) (turned (eqb a 0) (eqb b 0) (eqb c 0) (eqb d 0))
@@ -51,7 +51,7 @@ returns c =
     let c1 = c2.before.before in
     let s = c1.before.before.args.t1 in
     rw (c.number-of4.ensures.0, c3.number-of3.ensures.0, c2.number-of2.ensures.0, c1.number_of_lem.ensures.0)
-    (no_word (filesRead s 1) (filesRead s 2) (filesRead s 3) (filesRead s 4))
+    (no-word (filesRead s 1) (filesRead s 2) (filesRead s 3) (filesRead s 4))
 
 pub all-holds-spec : {M : Type 1} → statement M
 all-holds-spec = tie.close (tie.spec (λ c. search rules) (λ c κs. search rules) (λ c. search rules) (λ c κs. search rules)

@@ -5,14 +5,14 @@ use borrow.Author.Rules.{rules}
 use borrow.Author.Tests.{eq-eqb}
 use lib.Dec.{eqb}
 use Rattle.rules.specs.Sessions.{isReading, isReadByOther}
-use Rattle.rules.proofs.SessionLaws.{none-reading, none_read}
+use Rattle.rules.proofs.SessionLaws.{none-reading, none-read}
 use Rattle.sessions.proofs.holds.is_read_by_other.Statement.{statement}
 use Rattle.sessions.proofs.holds.is_read_by_other.Tie as tie
 
 returns : tie.Need-returns
 returns c =
     let x = c.before.before.args in
-    sym (none_read x.s x.k x.f (λ j lo hi. none-reading x.s (sym c.before.all-holds.ensures ∙ eq-eqb _ 0 c.if1.true) j x.f lo hi))
+    sym (none-read x.s x.k x.f (λ j lo hi. none-reading x.s (sym c.before.all-holds.ensures ∙ eq-eqb _ 0 c.if1.true) j x.f lo hi))
 
 returns-2 : tie.Need-returns-2
 unfolding isReadByOther

@@ -9,11 +9,11 @@ use borrow.Author.Rules.{rules}
 use borrow.Author.Tests.{not-true, not-false}
 use lib.Pow.{shr-shr}
 use Rattle.lists.specs.Lists.{every, from}
-use Rattle.lists.proofs.CaseLaws.{by_equal}
+use Rattle.lists.proofs.CaseLaws.{by-equal}
 use Rattle.lists.proofs.ListLaws.{every-all}
-use Rattle.lists.proofs.TestLaws.{numbers_more, numbers-fail}
+use Rattle.lists.proofs.TestLaws.{numbers-more, numbers-fail}
 use Rattle.volume.specs.Volumes.{view}
-use Rattle.byteset.proofs.BitLaws.{none_above}
+use Rattle.byteset.proofs.BitLaws.{none-above}
 use Rattle.rules.specs.Sessions.{filesRead, isReading, holdFits, clientHoldsFit}
 use Rattle.sessions.proofs.holds_fit.client_holds_fit.Statement.{statement}
 use Rattle.sessions.proofs.holds_fit.client_holds_fit.Tie as tie
@@ -23,8 +23,8 @@ abbrev bitsFrom : ℕ → ℕ → ℕ
 bitsFrom w f = w / 2 ^ (f - 1)
 
 -- One of them is left, so f is a file; and without f's bit they are those from the next file on.
-some_left : (w f : ℕ) → w < 2 ^ 16 → f ≤ 17 → bitsFrom w f ≢ 0 → f ≤ 16
-some_left w f h hi n = by_equal f 17 (λ e. absurd (n (rw e (omega (arith, h))))) (λ e. omega (arith, e))
+some-left : (w f : ℕ) → w < 2 ^ 16 → f ≤ 17 → bitsFrom w f ≢ 0 → f ≤ 16
+some-left w f h hi n = by-equal f 17 (λ e. absurd (n (rw e (omega (arith, h))))) (λ e. omega (arith, e))
 
 next-left : (w f : ℕ) → 1 ≤ f → bitsFrom w f / 2 ^ 1 ≡ bitsFrom w (f + 1)
 next-left w f lo =
@@ -49,7 +49,7 @@ loop-holds c =
 in-files : (c : tie.In-loop invariant-loop decreases-loop) → c.before.loop.f ≤ 16
 in-files c =
     let at = c.before.loop in
-    some_left _ at.f at.invariant.2 at.invariant.1 (λ e. c.loop-test.true (at.invariant.3 ∙ e))
+    some-left _ at.f at.invariant.2 at.invariant.1 (λ e. c.loop-test.true (at.invariant.3 ∙ e))
 
 noted-fits-requires : tie.Need-noted-fits-requires invariant-loop decreases-loop
 noted-fits-requires c κs =
@@ -72,7 +72,7 @@ loop-again c =
       omega (arith, file),
       at.invariant.2,
       ap (λ (x : ℕ). x / 2 ^ 1) at.invariant.3 ∙ next-left _ at.f at.invariant.0,
-      numbers_more _ _ 17 at.f at.invariant.4 file (sym r.noted-fits.ensures ∙ not-false _ c.if1.false),
+      numbers-more _ _ 17 at.f at.invariant.4 file (sym r.noted-fits.ensures ∙ not-false _ c.if1.false),
     )
 
 loop-less : tie.Need-loop-smaller invariant-loop decreases-loop
@@ -85,7 +85,7 @@ unfolding isReading
 returns-2 c =
     let at = c.before.loop in
     let z : bitsFrom _ at.f ≡ 0 = sym at.invariant.3 ∙ c.loop-test.false in
-    sym (at.invariant.4 ∙ every-all _ (17 - at.f) at.f (λ g lo hi. rw (none_above _ (at.f - 1) (g - 1) z (omega (arith, lo)))))
+    sym (at.invariant.4 ∙ every-all _ (17 - at.f) at.f (λ g lo hi. rw (none-above _ (at.f - 1) (g - 1) z (omega (arith, lo)))))
 
 pub client-holds-fit-spec : {M : Type 1} → statement M
 client-holds-fit-spec = tie.close (tie.spec invariant-loop decreases-loop (λ c κs. search rules) (λ c. search rules) (λ c. search rules) (λ c. search rules)

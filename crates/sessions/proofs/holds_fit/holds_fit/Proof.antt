@@ -6,7 +6,7 @@ use native.Mathlib.Omega.{arith}
 use borrow.Author.Rules.{rules}
 use borrow.Author.Tests.{eq-eqb, not-true, not-false}
 use Rattle.lists.specs.Lists.{every, from}
-use Rattle.lists.proofs.TestLaws.{numbers_more, numbers-fail, numbers-done}
+use Rattle.lists.proofs.TestLaws.{numbers-more, numbers-fail, numbers-done}
 use Rattle.volume.specs.Volumes.{view}
 use Rattle.rules.specs.Sessions.{clientHoldsFit, holdsFit}
 use Rattle.rules.proofs.SessionLaws.{none-fits}
@@ -40,7 +40,7 @@ loop-again : tie.Need-loop-preserved invariant-loop decreases-loop
 loop-again c =
     let f = c.before in
     let at = f.before.before in
-    (omega arith, omega (arith, f.before.loop-test.true), numbers_more _ _ 5 at.loop.k at.loop.invariant.2 f.before.loop-test.true (sym f.client-holds-fit.ensures ∙ not-false _ c.if2.false))
+    (omega arith, omega (arith, f.before.loop-test.true), numbers-more _ _ 5 at.loop.k at.loop.invariant.2 f.before.loop-test.true (sym f.client-holds-fit.ensures ∙ not-false _ c.if2.false))
 
 returns-3 : tie.Need-returns-3 invariant-loop decreases-loop
 returns-3 c =

@@ -7,7 +7,7 @@ use borrow.Author.Tests.{eq-eqb, ne_eqb}
 use lib.ListN.{length, drop, drop_of_length-le}
 use Rattle.lists.specs.Lists.{every}
 use Rattle.sector.specs.Contents.{Entry, Record}
-use Rattle.lists.proofs.TestLaws.{drop-next, every_more, every-fails}
+use Rattle.lists.proofs.TestLaws.{drop-next, every-more, every-fails}
 use Rattle.volume.specs.Views.{View}
 use Rattle.volume.specs.Volumes.{view}
 use Rattle.volume.specs.WellFormed.{noEntry}
@@ -54,7 +54,7 @@ loop-again c =
     let lt : at.loop.i < length ((view s.args.v.now).records s.args.k).entries = omega (arith, h.before.before.loop-test.true) in (
       omega (arith, h.before.before.loop-test.true),
       at.loop.invariant.1,
-      every_more _ at.loop.i _ (drop-next _ at.loop.i noEntry lt) _ _ (eq-eqb _ _ (sym (rw h.before.entry-file.ensures at h.holder.ensures) ∙ c.if1.false)) at.loop.invariant.2,
+      every-more _ at.loop.i _ (drop-next _ at.loop.i noEntry lt) _ _ (eq-eqb _ _ (sym (rw h.before.entry-file.ensures at h.holder.ensures) ∙ c.if1.false)) at.loop.invariant.2,
     )
 
 returns-2 : tie.Need-returns-2 invariant-loop decreases-loop

@@ -6,7 +6,7 @@ use native.Mathlib.Omega.{arith}
 use borrow.Author.Rules.{rules}
 use borrow.Author.Tests.{not-true, not-false}
 use Rattle.lists.specs.Lists.{every, from}
-use Rattle.lists.proofs.TestLaws.{numbers_more, numbers-fail, numbers-done}
+use Rattle.lists.proofs.TestLaws.{numbers-more, numbers-fail, numbers-done}
 use Rattle.volume.specs.Volumes.{view}
 use Rattle.rules.specs.Sessions.{isActive, markFits, marksFit}
 use Rattle.sessions.proofs.marks_fit.marks_fit.Statement.{statement}
@@ -34,7 +34,7 @@ loop-again : tie.Need-loop-preserved invariant-loop decreases-loop
 loop-again c =
     let f = c.before in
     let at = f.before.before in
-    (omega arith, omega (arith, f.before.loop-test.true), numbers_more _ _ 5 at.loop.k at.loop.invariant.2 f.before.loop-test.true (sym f.marked-fits.ensures ∙ not-false _ c.if1.false))
+    (omega arith, omega (arith, f.before.loop-test.true), numbers-more _ _ 5 at.loop.k at.loop.invariant.2 f.before.loop-test.true (sym f.marked-fits.ensures ∙ not-false _ c.if1.false))
 
 returns-2 : tie.Need-returns-2 invariant-loop decreases-loop
 returns-2 c =

@@ -1,7 +1,7 @@
 -- `begin_stores` meets its contract: recovery, then the open record.
 use borrow.Author.Rules.{rules}
 use Rattle.volume.specs.Volumes.{view}
-use Rattle.stores.proofs.MadeLaws.{all-table, made_more}
+use Rattle.stores.proofs.MadeLaws.{all-table, made-more}
 use Rattle.transaction.proofs.BeginLaws.{begin-plan}
 use Rattle.transaction.proofs.begin.begin_stores.Statement.{statement}
 use Rattle.transaction.proofs.begin.begin_stores.Tie as tie
@@ -21,7 +21,7 @@ returns c =
     let x = r.before.before in
     let s = x.before.before in
     λ t off. rw (begin-plan (view s.args.v.now) t s.args.k off)
-    (made_more (λ going. all-table _ (r.recover.ensures.1 going)) (rw x.new.ensures at r.recover.ensures.0) p.put-empty-record.ensures)
+    (made-more (λ going. all-table _ (r.recover.ensures.1 going)) (rw x.new.ensures at r.recover.ensures.0) p.put-empty-record.ensures)
 
 pub begin-stores-spec : {M : Type 1} → statement M
 begin-stores-spec = tie.close (tie.spec (λ c κs. search rules) (λ c κs. search rules) put-empty-record-requires

@@ -2,7 +2,7 @@
 use mathlib.Core.Path.{◌∙◌}
 use borrow.Author.Rules.{rules}
 use Rattle.stores.proofs.MadeLaws.{made-crashed}
-use Rattle.recovery.proofs.HeaderLaws.{header_read}
+use Rattle.recovery.proofs.HeaderLaws.{header-read}
 use Rattle.transaction.proofs.open.claim.Statement.{statement}
 use Rattle.transaction.proofs.open.claim.Tie as tie
 
@@ -28,7 +28,7 @@ returns-2 c =
     let n = l.before.before.before.before.before in
     let s = n.before.before in
     let k = s.requires n.if1.false in
-    let read = header_read s.args.v.now k.0 s.args.f k.1 _ (l.load.ensures.0 ∙ l.before.header.ensures.0) in
+    let read = header-read s.args.v.now k.0 s.args.f k.1 _ (l.load.ensures.0 ∙ l.before.header.ensures.0) in
     p.put-header.ensures _ (e.set-holder.ensures.0 _ _ read)
 
 pub claim-spec : {M : Type 1} → statement M

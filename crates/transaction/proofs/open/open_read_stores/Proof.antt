@@ -2,7 +2,7 @@
 use mathlib.Core.Path.{sym, ◌∙◌}
 use borrow.Author.Rules.{rules}
 use Rattle.volume.specs.Volumes.{view}
-use Rattle.stores.proofs.MadeLaws.{made_none}
+use Rattle.stores.proofs.MadeLaws.{made-none}
 use Rattle.transaction.proofs.OpenLaws.{own-read-plan, free-read-plan, holder-client, open-read-made}
 use Rattle.transaction.proofs.open.open_read_stores.Statement.{statement}
 use Rattle.transaction.proofs.open.open_read_stores.Tie as tie
@@ -12,7 +12,7 @@ returns c =
     let h = c.before in
     let x = h.before.before in
     let a = x.before.before.args in
-    λ t free unread. rw (own-read-plan (view a.v.now) t a.k a.f (sym h.holder.ensures ∙ c.if1.true), x.new.ensures) made_none
+    λ t free unread. rw (own-read-plan (view a.v.now) t a.k a.f (sym h.holder.ensures ∙ c.if1.true), x.new.ensures) made-none
 
 returns-2 : tie.Need-returns-2
 returns-2 c =
@@ -20,7 +20,7 @@ returns-2 c =
     let x = h.before.before in
     let a = x.before.before.args in
     let holder = sym h.holder.ensures in
-    λ t free unread. rw (free-read-plan (view a.v.now) t a.k a.f (rw holder c.before.if1.false) (holder ∙ c.if2.true), x.new.ensures) made_none
+    λ t free unread. rw (free-read-plan (view a.v.now) t a.k a.f (rw holder c.before.if1.false) (holder ∙ c.if2.true), x.new.ensures) made-none
 
 recover-requires : tie.Need-recover-requires
 recover-requires c κs =

@@ -2,8 +2,8 @@
 use mathlib.Core.Path.{sym, ◌∙◌}
 use borrow.Author.Rules.{rules}
 use Rattle.volume.specs.Volumes.{view}
-use Rattle.stores.proofs.MadeLaws.{made_none}
-use Rattle.transaction.proofs.OpenLaws.{own-plan, free-plan, holder-client, recovered-formed, open_more}
+use Rattle.stores.proofs.MadeLaws.{made-none}
+use Rattle.transaction.proofs.OpenLaws.{own-plan, free-plan, holder-client, recovered-formed, open-more}
 use Rattle.transaction.proofs.open.open_stores.Statement.{statement}
 use Rattle.transaction.proofs.open.open_stores.Tie as tie
 
@@ -12,7 +12,7 @@ returns c =
     let h = c.before in
     let x = h.before.before in
     let a = x.before.before.args in
-    λ t free. rw (own-plan (view a.v.now) t a.k a.f (sym h.holder.ensures ∙ c.if1.true), x.new.ensures) made_none
+    λ t free. rw (own-plan (view a.v.now) t a.k a.f (sym h.holder.ensures ∙ c.if1.true), x.new.ensures) made-none
 
 returns-2 : tie.Need-returns-2
 returns-2 c =
@@ -49,7 +49,7 @@ returns-3 c =
     let h = y.before.before in
     let x = h.before.before in
     let s = x.before.before in
-    open_more s.requires.0 s.requires.1 s.requires.2 (sym h.holder.ensures) y.before.if1.false y.if2.false
+    open-more s.requires.0 s.requires.1 s.requires.2 (sym h.holder.ensures) y.before.if1.false y.if2.false
     (rw x.new.ensures at r.recover.ensures.0) r.recover.ensures.1 l.claim2.ensures
 
 pub open-stores-spec : {M : Type 1} → statement M

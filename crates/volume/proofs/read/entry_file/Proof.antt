@@ -2,7 +2,7 @@
 use mathlib.Core.Path.{ap, ◌∙◌}
 use native.Mathlib.Omega.{arith}
 use Rattle.sector.specs.Contents.{Entry}
-use Rattle.volume.proofs.ReadLaws.{few-entries, entry_in}
+use Rattle.volume.proofs.ReadLaws.{few-entries, entry-in}
 use Rattle.volume.proofs.read.entry_file.Statement.{statement}
 use Rattle.volume.proofs.read.entry_file.Tie as tie
 
@@ -19,7 +19,7 @@ entry-file-requires c κs =
 returns : tie.Need-returns
 returns c =
     let s = c.before.before.before in
-    c.entry-file.ensures ∙ rw c.before.record.ensures.0 (ap (λ (e : Entry). e.file) (entry_in s.args.v.now s.requires.0 s.args.k s.args.i s.requires.1))
+    c.entry-file.ensures ∙ rw c.before.record.ensures.0 (ap (λ (e : Entry). e.file) (entry-in s.args.v.now s.requires.0 s.args.k s.args.i s.requires.1))
 
 pub entry-file-spec : {M : Type 1} → statement M
 entry-file-spec = tie.close (tie.spec record-requires entry-file-requires returns)

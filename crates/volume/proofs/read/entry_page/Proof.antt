@@ -2,7 +2,7 @@
 use mathlib.Core.Path.{ap, ◌∙◌}
 use native.Mathlib.Omega.{arith}
 use Rattle.sector.specs.Contents.{Entry}
-use Rattle.volume.proofs.ReadLaws.{few-entries, entry_in}
+use Rattle.volume.proofs.ReadLaws.{few-entries, entry-in}
 use Rattle.volume.proofs.read.entry_page.Statement.{statement}
 use Rattle.volume.proofs.read.entry_page.Tie as tie
 
@@ -19,7 +19,7 @@ entry-page-requires c κs =
 returns : tie.Need-returns
 returns c =
     let s = c.before.before.before in
-    c.entry-page.ensures ∙ rw c.before.record.ensures.0 (ap (λ (e : Entry). e.page) (entry_in s.args.v.now s.requires.0 s.args.k s.args.i s.requires.1))
+    c.entry-page.ensures ∙ rw c.before.record.ensures.0 (ap (λ (e : Entry). e.page) (entry-in s.args.v.now s.requires.0 s.args.k s.args.i s.requires.1))
 
 pub entry-page-spec : {M : Type 1} → statement M
 entry-page-spec = tie.close (tie.spec record-requires entry-page-requires returns)
