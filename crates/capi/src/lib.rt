@@ -20,7 +20,7 @@ use crate::pass::{
 
 // A session: bit k - 1 of `active` is client k's mark, bit f - 1 of `reading[k - 1]` its reading hold of file f.
 #[repr(C)]
-#[derive(Drop)]
+#[derive(Clone, Copy)]
 pub struct VolSession {
     pub active: u8,
     pub reading: [u16; 4],
@@ -28,7 +28,7 @@ pub struct VolSession {
 
 // The reply of a call that takes a session and a budget.
 #[repr(C)]
-#[derive(Drop)]
+#[derive(Clone, Copy)]
 pub struct VolReply {
     pub session: VolSession,
     pub kind: u8,
@@ -37,7 +37,7 @@ pub struct VolReply {
 
 // The answer of a call that hands back no session.
 #[repr(C)]
-#[derive(Drop)]
+#[derive(Clone, Copy)]
 pub struct VolAnswer {
     pub kind: u8,
     pub number: u16,

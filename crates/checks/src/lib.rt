@@ -16,14 +16,14 @@ pub use spare::check_spare;
 pub use write::check_write;
 
 // What the tests of a call found.
-#[derive(Drop)]
+#[derive(Clone, Copy)]
 pub enum Verdict {
     Accepted,
     Refused(Refusal),
 }
 
 // What the tests of write found: a refusal, or where the page goes.
-#[derive(Drop)]
+#[derive(Clone, Copy)]
 pub enum WriteVerdict {
     Refused(Refusal),
     // The slot that the record has for the page already.

@@ -10,7 +10,7 @@ use performer::is_look;
 pub use performer::{page, perform};
 
 // Which call a command is.
-#[derive(Drop)]
+#[derive(Clone, Copy)]
 pub enum Action {
     Begin,
     Open,
@@ -24,7 +24,7 @@ pub enum Action {
 
 // A call with its arguments; those that it doesn't take are ignored. `crash`: the supply failed before it, so it is
 // given a new session. What a write stores is lent separately.
-#[derive(Drop)]
+#[derive(Clone, Copy)]
 pub struct Command {
     pub action: Action,
     pub crash: bool,
@@ -35,21 +35,21 @@ pub struct Command {
 }
 
 // What a command answered.
-#[derive(Drop)]
+#[derive(Clone, Copy)]
 pub enum Told {
     Call(Outcome),
     Query(QueryOutcome),
 }
 
 // Its answer, and the session last handed back: a question hands back none, so it is the one from before it.
-#[derive(Drop)]
+#[derive(Clone, Copy)]
 pub struct Performed {
     pub told: Told,
     pub session: Session,
 }
 
 // Whether a session has room for the reading hold that a line names, and the session, with that hold if so.
-#[derive(Drop)]
+#[derive(Clone, Copy)]
 pub struct Added {
     pub is_understood: bool,
     pub session: Session,

@@ -4,7 +4,7 @@ ghost use Rattle.volume.specs.WellFormed.{noEntry};
 ghost use Rattle.enumeration.specs.Choices.{entryChoices, mapChoices};
 
 // How many there are.
-#[derive(Drop)]
+#[derive(Clone, Copy)]
 pub struct Choices {}
 
 impl Choices {
@@ -21,7 +21,7 @@ impl Choices {
 }
 
 // The page and the slot of an entry, or the slots of both pages in a map.
-#[derive(Drop)]
+#[derive(Clone, Copy)]
 pub struct Pair(pub u8, pub u8);
 
 const ENTRY_ROWS: [Pair; 6] = [

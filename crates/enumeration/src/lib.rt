@@ -15,7 +15,7 @@ use crate::choices::Choices;
 use soundness::is_sound;
 
 // What an advance answers.
-#[derive(Drop)]
+#[derive(Clone, Copy)]
 pub enum AdvanceOutcome {
     // The array is the next small volume; the advance after it is to begin at this number.
     To(usize),
@@ -26,7 +26,7 @@ pub enum AdvanceOutcome {
 }
 
 // What all small volumes have in common.
-#[derive(Drop)]
+#[derive(Clone, Copy)]
 pub struct Small {}
 
 impl Small {

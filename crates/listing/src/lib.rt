@@ -14,7 +14,7 @@ use soundness::is_sound;
 use text::put;
 
 // What every listing has in common.
-#[derive(Drop)]
+#[derive(Clone, Copy)]
 pub struct Listing {}
 
 impl Listing {
@@ -25,7 +25,7 @@ impl Listing {
 }
 
 // How a listing ended.
-#[derive(Drop)]
+#[derive(Clone, Copy)]
 pub enum ListOutcome {
     // The text is written, and has this many bytes.
     Listed(usize),

@@ -17,7 +17,7 @@ use crate::steps::has_room;
 use interface::{FormatOutcome, Refusal, Session};
 
 // How a replay ended.
-#[derive(Drop)]
+#[derive(Clone, Copy)]
 pub enum Ended {
     // The transcript has no room in the buffer. Nothing was run, and nothing changed.
     NoRoom,
@@ -28,7 +28,7 @@ pub enum Ended {
 }
 
 // What a replay hands back besides volume and transcript: the session is the one last handed back.
-#[derive(Drop)]
+#[derive(Clone, Copy)]
 pub struct Replayed {
     pub ended: Ended,
     pub session: Session,

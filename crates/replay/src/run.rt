@@ -12,7 +12,7 @@ use crate::transcript::put_entry;
 use interface::Session;
 
 // What a step leaves besides the volume: the session last handed back, and the position after its entry.
-#[derive(Drop)]
+#[derive(Clone, Copy)]
 struct Stepped {
     session: Session,
     next: usize,

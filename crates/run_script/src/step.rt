@@ -7,7 +7,7 @@ use interface::Session;
 use script::Kind;
 
 // The volume is the first `length` bytes of the buffer.
-#[derive(Drop)]
+#[derive(Clone, Copy)]
 pub struct State {
     pub length: usize,
     pub session: Session,
@@ -15,7 +15,7 @@ pub struct State {
 }
 
 // What a line other than format leaves: the session, and whether it was understood.
-#[derive(Drop)]
+#[derive(Clone, Copy)]
 struct Turn {
     session: Session,
     is_understood: bool,

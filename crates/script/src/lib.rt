@@ -5,7 +5,7 @@ pub mod kinds;
 pub mod texts;
 
 // What a line asks for.
-#[derive(Drop)]
+#[derive(Clone, Copy)]
 pub enum Kind {
     Format,
     Begin,
@@ -33,7 +33,7 @@ pub enum Kind {
 
 // A row of the table of lines: the kind, the word with spaces behind it, the least and the most arguments, and the most
 // that each of the first five may be; any other is a byte.
-#[derive(Drop)]
+#[derive(Clone, Copy)]
 pub struct Row(
     pub Kind,
     pub [u8; 10],

@@ -1,7 +1,7 @@
 // The numbers of `specs/Layout`: where each byte of a control sector lies, and the limits.
 
 // What every sector has in common.
-#[derive(Drop)]
+#[derive(Clone, Copy)]
 pub struct Sector {}
 
 impl Sector {
@@ -18,7 +18,7 @@ impl Sector {
 }
 
 // Where a control sector's fields and items lie.
-#[derive(Drop)]
+#[derive(Clone, Copy)]
 pub struct Offset {}
 
 impl Offset {
@@ -53,7 +53,7 @@ impl Offset {
 }
 
 // The states of an intentions record.
-#[derive(Drop)]
+#[derive(Clone, Copy)]
 pub struct State {}
 
 impl State {
@@ -65,7 +65,7 @@ impl State {
 }
 
 // The most that there may be: of a volume's sectors, clients and files, of a file's pages and slots, of a record's entries.
-#[derive(Drop)]
+#[derive(Clone, Copy)]
 pub struct Limits {}
 
 impl Limits {

@@ -19,7 +19,7 @@ use byteset::{add, lowest_missing};
 use sector::State;
 
 // What a search for a slot found.
-#[derive(Drop)]
+#[derive(Clone, Copy)]
 pub enum Found {
     Slot(u8),
     Nothing,

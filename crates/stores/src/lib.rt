@@ -11,7 +11,7 @@ ghost use Rattle.volume.specs.WellFormed.{WellFormed};
 ghost use Rattle.stores.specs.Runs.{newRun, counted, UpdatesMade};
 
 // A run of stores: how many it may make, how many it made, and whether it was to make one more.
-#[derive(Drop)]
+#[derive(Clone, Copy)]
 pub struct Run {
     pub budget: u8,
     pub made: u8,
