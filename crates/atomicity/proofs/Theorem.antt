@@ -55,7 +55,7 @@ module _ {t : Table} {r : Configuration} (h : Related t r) where
 
 pub ran-related : {t : Table} {r : Configuration} → Related t r → (steps : List Step) → Related t (ranOver r steps)
 ran-related h [] = h
-ran-related h (x ∷ xs) = ran-related (step-related h x) xs
+ran-related {r = r} h (x ∷ xs) = ran-related {r = stepped r x} (step-related h x) xs
 
 -- From any start that is related.
 pub agrees : (t : Table) (r : Configuration) (steps : List Step) → Related t r → Agrees t r steps
