@@ -1,11 +1,13 @@
 // Lists the volume on standard input: a line for each client and one for each file, or `too long`, or `not sound`.
 #![tactic(auto)]
 
-fn main() {
+use std::io;
+
+fn main(rt: HostRuntime) -> io::Result<()> {
     // One byte more than the longest volume that is listed.
     let mut input = [0u8; 65537];
-    let n = io::read_full(0, &mut input);
+    let n = console::read_full(&rt, &mut input)?;
     let mut text = [0u8; listing::Listing::ROOM];
     let count = listing::print(&input[..n], &mut text);
-    io::write_all(1, &text[..count]);
+    console::write(&rt, &text[..count])
 }

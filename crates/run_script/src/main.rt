@@ -3,11 +3,12 @@
 mod print;
 mod step;
 
-ghost use Rattle.std.specs.Prelude.{◌≤◌, length};
+ghost use Rattle.std.specs.Prelude.{◌+◌, ◌-◌, ◌≤◌, length};
 
 use crate::print::{not_understood, put};
 use crate::step::{State, step};
 use interface::Session;
+use std::io;
 
 // The longest script.
 const LONGEST: usize = 65536;
@@ -17,11 +18,14 @@ fn line_end(script: &[u8], at: usize) -> usize
     requires { at ≤ length script.now }
     ensures { (at ≤ result) × (result ≤ length script.now) }
 {
-    bytes::scan::find(script, at, script.len(), b'\n')
+    match script[at..].iter().position(|b| *b == b'\n') {
+        Some(n) => at + n,
+        None => script.len(),
+    }
 }
 
 // Runs the lines one after the other, up to the first one that isn't understood.
-fn run(script: &[u8], buffer: &mut [u8]) {
+fn run(rt: &impl Print, script: &[u8], buffer: &mut [u8]) -> io::Result<()> {
     let mut state = State {
         length: 0,
         session: Session::new(),
@@ -33,25 +37,23 @@ fn run(script: &[u8], buffer: &mut [u8]) {
         number += 1;
         let end = line_end(script, at);
         if end == script.len() {
-            not_understood(number);
-            return;
+            return not_understood(rt, number);
         }
-        state = step(buffer, state, &script[at..end]);
+        state = step(rt, buffer, state, &script[at..end])?;
         if !state.is_understood {
-            not_understood(number);
-            return;
+            return not_understood(rt, number);
         }
         at = end + 1;
     }
+    Ok(())
 }
 
-fn main() {
+fn main(rt: HostRuntime) -> io::Result<()> {
     let mut input = [0u8; 65537];
-    let n = io::read_full(0, &mut input);
+    let n = console::read_full(&rt, &mut input)?;
     if LONGEST < n {
-        put(b"too long\n");
-        return;
+        return put(&rt, b"too long\n");
     }
     let mut buffer = [0u8; 262400];
-    run(&input[..n], &mut buffer);
+    run(&rt, &input[..n], &mut buffer)
 }

@@ -1,10 +1,11 @@
 // What a line does to the volume, which is the front of the buffer, and to the session.
-ghost use Rattle.io.specs.Counts.{IsPrefixLen};
+ghost use Rattle.std.specs.Prelude.{◌≤◌, length};
 
 use crate::print::{put_count, put_format, put_hex, put_list, put_outcome, put_query, put_session};
 use commands::{Action, Told};
 use interface::Session;
 use script::Kind;
+use std::io;
 
 // The volume is the first `length` bytes of the buffer.
 #[derive(Clone, Copy)]
@@ -22,18 +23,18 @@ struct Turn {
 }
 
 // A line that is a call: it is performed, and its answer is printed.
-fn run_call(v: &mut [u8], s: Session, a: Action, line: &[u8]) -> Turn {
+fn run_call(rt: &impl Print, v: &mut [u8], s: Session, a: Action, line: &[u8]) -> io::Result<Turn> {
     let p = commands::lines::perform_line(v, s, a, line);
     let t = p.told;
     match t {
-        Told::Call(o) => put_outcome(o),
-        Told::Query(o) => put_query(o, commands::inspect::page(v, s, a, line)),
+        Told::Call(o) => put_outcome(rt, o)?,
+        Told::Query(o) => put_query(rt, o, commands::inspect::page(v, s, a, line))?,
     }
     let next = p.session;
-    Turn {
+    Ok(Turn {
         session: next,
         is_understood: true,
-    }
+    })
 }
 
 // `reading K F`
@@ -47,68 +48,68 @@ fn add_hold(s: Session, line: &[u8]) -> Turn {
 }
 
 // `session`
-fn show(s: Session) -> Turn {
-    put_session(s);
-    Turn {
+fn show(rt: &impl Print, s: Session) -> io::Result<Turn> {
+    put_session(rt, s)?;
+    Ok(Turn {
         session: s,
         is_understood: true,
-    }
+    })
 }
 
 // `dump S`: whether there is such a sector.
-fn dump(v: &[u8], line: &[u8]) -> bool {
+fn dump(rt: &impl Print, v: &[u8], line: &[u8]) -> io::Result<bool> {
     let part = commands::inspect::dump(v, line);
     if part.len() == 0 {
-        return false;
+        return Ok(false);
     }
-    put_hex(part);
-    true
+    put_hex(rt, part)?;
+    Ok(true)
 }
 
 // A line that leaves the session as it is: whether it names a place in the volume.
-fn inspect(v: &mut [u8], kind: Kind, line: &[u8]) -> bool {
+fn inspect(rt: &impl Print, v: &mut [u8], kind: Kind, line: &[u8]) -> io::Result<bool> {
     match kind {
         Kind::Spare => {
-            put_count(commands::inspect::spare(v, line));
-            true
+            put_count(rt, commands::inspect::spare(v, line))?;
+            Ok(true)
         }
-        Kind::Poke => commands::inspect::poke(v, line),
-        Kind::Dump => dump(v, line),
+        Kind::Poke => Ok(commands::inspect::poke(v, line)),
+        Kind::Dump => dump(rt, v, line),
         Kind::List => {
-            put_list(v);
-            true
+            put_list(rt, v)?;
+            Ok(true)
         }
-        _ => false,
+        _ => Ok(false),
     }
 }
 
 // Runs a line on the volume.
-fn run_line(v: &mut [u8], s: Session, kind: Kind, line: &[u8]) -> Turn {
+fn run_line(rt: &impl Print, v: &mut [u8], s: Session, kind: Kind, line: &[u8]) -> io::Result<Turn> {
     match kind {
-        Kind::Begin => run_call(v, s, Action::Begin, line),
-        Kind::Open => run_call(v, s, Action::Open, line),
-        Kind::OpenRead => run_call(v, s, Action::OpenRead, line),
-        Kind::Write => run_call(v, s, Action::Write, line),
-        Kind::Commit => run_call(v, s, Action::Commit, line),
-        Kind::Abort => run_call(v, s, Action::Abort, line),
-        Kind::Read => run_call(v, s, Action::Read, line),
-        Kind::Look => run_call(v, s, Action::Look, line),
-        Kind::Session => Turn {
+        Kind::Begin => run_call(rt, v, s, Action::Begin, line),
+        Kind::Open => run_call(rt, v, s, Action::Open, line),
+        Kind::OpenRead => run_call(rt, v, s, Action::OpenRead, line),
+        Kind::Write => run_call(rt, v, s, Action::Write, line),
+        Kind::Commit => run_call(rt, v, s, Action::Commit, line),
+        Kind::Abort => run_call(rt, v, s, Action::Abort, line),
+        Kind::Read => run_call(rt, v, s, Action::Read, line),
+        Kind::Look => run_call(rt, v, s, Action::Look, line),
+        Kind::Session => Ok(Turn {
             session: commands::inspect::session(line),
             is_understood: true,
-        },
-        Kind::ShowSession => show(s),
-        Kind::Reading => add_hold(s, line),
-        _ => Turn {
+        }),
+        Kind::ShowSession => show(rt, s),
+        Kind::Reading => Ok(add_hold(s, line)),
+        _ => Ok(Turn {
             session: s,
-            is_understood: inspect(v, kind, line),
-        },
+            is_understood: inspect(rt, v, kind, line)?,
+        }),
     }
 }
 
 // n, or the length of the buffer if that is less.
 fn at_most(n: usize, buffer: &[u8]) -> usize
-    ensures { IsPrefixLen result buffer.now }
+    ensures { result ≤ length buffer.now }
 {
     if n < buffer.len() {
         return n;
@@ -117,32 +118,32 @@ fn at_most(n: usize, buffer: &[u8]) -> usize
 }
 
 // `format LENGTH T P R P R ..`
-fn format(buffer: &mut [u8], line: &[u8]) -> State {
+fn format(rt: &impl Print, buffer: &mut [u8], line: &[u8]) -> io::Result<State> {
     let n = at_most(script::fields::argument(line, 1) as usize, buffer);
-    put_format(commands::lines::format(&mut buffer[..n], line));
-    State {
+    put_format(rt, commands::lines::format(&mut buffer[..n], line))?;
+    Ok(State {
         length: n,
         session: Session::new(),
         is_understood: true,
-    }
+    })
 }
 
 // Runs one line.
-pub fn step(buffer: &mut [u8], state: State, line: &[u8]) -> State {
+pub fn step(rt: &impl Print, buffer: &mut [u8], state: State, line: &[u8]) -> io::Result<State> {
     if commands::inspect::is_remark(line) {
-        return state;
+        return Ok(state);
     }
     let kind = script::kinds::kind(line);
     if let Kind::Format = kind {
-        return format(buffer, line);
+        return format(rt, buffer, line);
     }
     let n = at_most(state.length, buffer);
     let s = state.session;
-    let turn = run_line(&mut buffer[..n], s, kind, line);
+    let turn = run_line(rt, &mut buffer[..n], s, kind, line)?;
     let next = turn.session;
-    State {
+    Ok(State {
         length: n,
         session: next,
         is_understood: turn.is_understood,
-    }
+    })
 }

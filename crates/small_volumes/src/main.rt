@@ -1,22 +1,24 @@
 // Writes every small volume, each once and one after the other: the sound volumes with T = 1, F = 1, P = 2, R = 3, N = 6 and every slot
 // zero, by the bytes of the record and then of the header. It takes no input.
 #![tactic(auto)]
+
 use enumeration::{AdvanceOutcome, Small};
+use std::io;
 
 // The array is advanced from volume to volume, and each is written.
-fn write_volumes(v: &mut [u8]) {
+fn write_volumes(rt: &impl Print, v: &mut [u8]) -> io::Result<()> {
     let mut at = 0;
     loop {
         let advanced = enumeration::advance(v, at);
         let AdvanceOutcome::To(n) = advanced else {
-            return;
+            return Ok(());
         };
-        io::write_all(1, v);
+        console::write(rt, v)?;
         at = n;
     }
 }
 
-fn main() {
+fn main(rt: HostRuntime) -> io::Result<()> {
     let mut v = [0u8; Small::LENGTH];
-    write_volumes(&mut v);
+    write_volumes(&rt, &mut v)
 }

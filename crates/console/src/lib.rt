@@ -1,0 +1,34 @@
+// Standard input and output of the programs. What is read and written is the system's affair; that a count is within the buffer is
+// proved.
+#![tactic(auto)]
+
+ghost use Rattle.std.specs.Prelude.{◌≤◌, length, IfOk};
+
+use std::io;
+use std::io::{Read, Write};
+
+// Reads until the buffer is full or the input ends, and answers how many bytes of the buffer were read.
+pub fn read_full(rt: &impl Input, buf: &mut [u8]) -> io::Result<usize>
+    ensures { IfOk result (λ n. n ≤ length buf.new) }
+{
+    let mut input = rt.reader();
+    let mut n = 0;
+    while n < buf.len() {
+        let count = input.read(&mut buf[n..])?;
+        if count == 0 {
+            break;
+        }
+        n += count;
+    }
+    Ok(n)
+}
+
+// Writes all these bytes.
+pub fn write(rt: &impl Print, bytes: &[u8]) -> io::Result<()> {
+    io::writer(rt).write_all(bytes)
+}
+
+// Writes a number in decimal digits.
+pub fn write_decimal(rt: &impl Print, n: u64) -> io::Result<()> {
+    print!(rt; "{n}")
+}
