@@ -1,15 +1,15 @@
 -- The lowest byte from a start on that is not in a set is the lowest clear bit of the first word that has one, where the bits
 -- before the start count as set: the ones below it are the zeros at the end of the word's complement, which is shown bit by bit.
 use mathlib.Core.Path.{◌≡◌, refl, sym, ap, ◌∙◌}
-use mathlib.Core.Bool.{true, false, not}
+use mathlib.Core.Bool.{true, false}
 use mathlib.Core.List.{List}
 use Prim.Native.Nat.{ℕ, zero, suc, ◌+◌, ◌*◌, ◌-◌, ◌/◌, ◌%◌, ◌^◌, ◌<◌, ◌≤◌, zero-le}
-use native.Mathlib.Nat.{min-zero, pow-suc, not-suc-le-zero, le_of_suc-le-suc}
+use native.Mathlib.Nat.{pow-suc, not-suc-le-zero, le_of_suc-le-suc}
 use native.Mathlib.Omega.{arith}
-use borrow.Author.Tests.{ne_eqb, ltb-true, ltb-false, lt-ltb, le-ltb}
-use lib.Bits.{bit_and, bit_or, and_mask, and_step, and_zero_l}
+use borrow.Author.Tests.{ltb-true, ltb-false, lt-ltb, le-ltb}
+use lib.Bits.{bit_or, and_zero_l}
 use lib.Count.{count_trailing_zeros, under}
-use lib.Dec.{eqb, ltb}
+use lib.Dec.{ltb}
 use lib.ListN.{get_or}
 use lib.Pow.{pow_pos}
 use Rattle.lists.proofs.CaseLaws.{by-test}

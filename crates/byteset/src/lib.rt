@@ -1,6 +1,7 @@
 // A set of bytes in four words of 64 bits: byte x is bit x % 64 of word x / 64. A set of numbers below
 // 1,024 is the same in sixteen words.
 #![tactic(auto)]
+
 ghost use Rattle.std.specs.Prelude.{◌≡◌, not, ◌/◌, ◌%◌, ◌^◌, ◌<◌, length};
 ghost use Rattle.byteset.specs.Bits.{hasBit};
 ghost use Rattle.byteset.specs.Set.{hasByte, withByte, passesOver, LowestFailing};

@@ -1,6 +1,7 @@
 // The calls on a volume. Each tests its own arguments and refuses by the first refusal that applies, before any store;
 // then it makes the stores of its plan, as many as the budget allows.
 #![tactic(auto)]
+
 mod reply;
 
 ghost use Rattle.std.specs.Prelude.{◌≡◌, true, ◌≤◌};
@@ -189,7 +190,7 @@ pub fn commit(volume: &mut [u8], session: Session, client: u8, budget: u8) -> Re
         Verdict::Refused(r) => refuse(session, r),
         Verdict::Accepted => {
             let made = transaction::commit_stores(volume, client, budget);
-            end(made, sessions::without_client(session, client))
+            end(made, sessions::without_client(session, 1))
         }
     }
 }

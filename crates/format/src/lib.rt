@@ -1,5 +1,6 @@
 // Format: a new volume is laid out in the lent array, with the clients and files asked for, or nothing is changed.
 #![tactic(auto)]
+
 mod layout;
 mod request;
 

@@ -1,5 +1,6 @@
 // A file header: it is one, the slots of its map are below the file's number of slots and differ, and its holder fits.
 #![tactic(auto)]
+
 ghost use Rattle.std.specs.Prelude.{◌≡◌, ◌≤◌, ◌<◌, length};
 ghost use Rattle.sector.specs.Layout.{pageLimit, entryLimit};
 ghost use Rattle.sector.specs.Decoding.{fileCountIn, countIn, entryIn, decodeTable, decodeRecord, decodeHeader};

@@ -1,5 +1,6 @@
 // Scripts of calls as text: the fields of a line, what it asks for, and bytes in hexadecimal.
 #![tactic(auto)]
+
 pub mod fields;
 pub mod kinds;
 pub mod texts;

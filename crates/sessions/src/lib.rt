@@ -1,5 +1,6 @@
 // A session's marks and reading holds, and whether they fit the volume: what refusal 2 asks.
 #![tactic(auto)]
+
 mod holds;
 mod holds_fit;
 mod marks;

@@ -1,5 +1,6 @@
 // Where a page lies, for a client that reads it and for a look; and the free slot that a new page takes.
 #![tactic(auto)]
+
 ghost use Rattle.std.specs.Prelude.{◌≡◌, true, ◌||◌, ℕ, length, get_or};
 ghost use Rattle.std.proofs.Math.ListN.{get_elem?};
 ghost use Rattle.lists.specs.Lists.{any, member};

@@ -1,6 +1,7 @@
 // Stores under a budget. A run of stores is handed from function to function: each puts its stores and hands the run on. A
 // run that has crashed makes no further store.
 #![tactic(auto)]
+
 ghost use Rattle.std.specs.Prelude.{◌≡◌, false, [], ◌∷◌, ◌<◌, length};
 ghost use Rattle.sector.specs.Contents.{Record, Header};
 ghost use Rattle.sector.specs.Encoding.{encodeRecord, encodeHeader};

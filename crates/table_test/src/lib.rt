@@ -1,5 +1,6 @@
 // The table: it is one, its counts and its files fit, and all ends at or before the end of the volume.
 #![tactic(auto)]
+
 ghost use Rattle.std.specs.Prelude.{◌≡◌, ◌≤◌, length};
 ghost use Rattle.sector.specs.Layout.{entryLimit};
 ghost use Rattle.sector.specs.Decoding.{fileCountIn};

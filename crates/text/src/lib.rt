@@ -1,5 +1,6 @@
 // Texts and numbers, each written at a position of an array. What is handed back is the position after it.
 #![tactic(auto)]
+
 ghost use Rattle.std.specs.Prelude.{◌∷◌, ◌++◌, ◌+◌, ◌≤◌, length};
 ghost use Rattle.volume.specs.Listing.{decimal, stateWord};
 ghost use Rattle.text.specs.Writes.{Wrote};

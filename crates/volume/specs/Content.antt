@@ -1,7 +1,7 @@
 -- Decided content, the paper's term, and the map that a file is left by recovery.
 use Rattle.std.specs.Prelude.{Bool, not, ◌&&◌, List, ℕ, eqb, get_or}
 use Rattle.lists.specs.Lists.{if◌then◌else◌}
-use Rattle.sector.specs.Contents.{Bytes, Record, Header, isDecidedRecord}
+use Rattle.sector.specs.Contents.{Bytes, isDecidedRecord}
 use Rattle.sector.specs.Entries.{redone}
 use Rattle.volume.specs.Views.{View}
 

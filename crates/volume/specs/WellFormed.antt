@@ -1,7 +1,7 @@
 -- What code may rely on once a volume has been found sound, and still has after each store of a call: the table fits, and
 -- every control sector is the encoding of what the view has for it.
 use Rattle.std.specs.Prelude.{◌≡◌, true, ℕ, ◌*◌, ◌≤◌, ◌<◌, length}
-use Rattle.sector.specs.Contents.{File, Table, Entry, Record, Header}
+use Rattle.sector.specs.Contents.{Table, Entry}
 use Rattle.sector.specs.Encoding.{encodeTable, encodeRecord, encodeHeader}
 use Rattle.volume.specs.Places.{IsClient, fileAt, endSector, tablePlace, recordPlace, headerPlace}
 use Rattle.volume.specs.Views.{View}

@@ -1,5 +1,6 @@
 // The volume as a whole: what is where, and what it holds.
 #![tactic(auto)]
+
 mod fits;
 mod read;
 mod write;

@@ -1,0 +1,20 @@
+-- `lowest_missing` meets its contract. The invariant: every byte below the words that are left is passed over, and of the next
+-- word `before` has the bits below the start. So the lowest clear bit of the next word that has one is the byte sought, or it is
+-- past n.
+use mathlib.Core.Path.{◌≡◌}
+use mathlib.Core.Bool.{true}
+use Prim.Native.Nat.{ℕ, ◌+◌, ◌*◌, ◌-◌, ◌/◌, ◌≤◌, ◌<◌}
+use lib.Dec.{ltb}
+use Rattle.byteset.specs.Bits.{hasBit}
+use Rattle.byteset.specs.Set.{passesOver}
+use Rattle.byteset.proofs.lowest_missing.Given as goal
+
+abbrev pub invariant-loop-i : goal.invariant-loop-i
+invariant-loop-i l =
+    (l.start / 64 ≤ l.i)
+    × ((y : ℕ) → y < 64 * l.i → passesOver l.start l.seen y ≡ true)
+    × ((j : ℕ) → j < 64 → hasBit l.before j ≡ ltb (64 * l.i + j) l.start)
+
+abbrev pub decreases-loop-i : goal.decreases-loop-i
+decreases-loop-i l =
+    4 - l.i

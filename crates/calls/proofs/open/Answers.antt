@@ -1,0 +1,30 @@
+-- `open` meets its contract: a refusal is the call's, and so are the stores of its plan.
+use mathlib.Core.Path.{◌∙◌}
+use Rattle.rules.specs.Plans.{openFile}
+use Rattle.calls.proofs.FactLaws.{opens}
+use Rattle.calls.proofs.AnswerLaws.{refused-call, ended-call}
+use Rattle.calls.proofs.open.Goals as goal
+
+pub open_stores-run-requires : goal.open_stores-run-requires
+open_stores-run-requires c =
+    let w = opens c.args.volume.now c.args.session c.args.client c.args.file c.in-Accepted.ensures in
+    (w.formed, w.file, w.header)
+
+pub without_reading-requires : goal.without_reading-requires
+without_reading-requires c =
+    let w = opens c.args.volume.now c.args.session c.args.client c.args.file c.in-Accepted.ensures in
+    (w.client.0, w.client.1, w.file.low, w.few)
+
+pub returns-in-Refused : goal.returns-in-Refused
+returns-in-Refused c =
+    let a = c.args in
+    c.refuse.ensures a.volume.now ∙ refused-call a.volume.now a.session (openFile a.client a.file) a.budget c.in-Refused.r c.in-Refused.ensures
+
+pub returns-in-Accepted : goal.returns-in-Accepted
+returns-in-Accepted c =
+    let a = c.args in
+    let e = c.in-Accepted.ensures in
+    let y = c.open_stores-run in
+    let free = (opens a.volume.now a.session a.client a.file e).free in
+    c.end.ensures y.new.v
+    ∙ rw c.without_reading.ensures (ended-call a.volume.now a.session (openFile a.client a.file) a.budget e y.new.v y.result (y.ensures a.session free))

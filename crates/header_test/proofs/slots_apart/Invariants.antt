@@ -1,0 +1,15 @@
+-- `slots_apart` meets its contract. The loop keeps that the entries from i on decide.
+use mathlib.Core.Path.{◌≡◌}
+use Prim.Native.Nat.{◌-◌, ◌≤◌}
+use lib.ListN.{drop}
+use Rattle.sector.specs.Decoding.{decodeRecord}
+use Rattle.header_test.specs.Header.{slotsApart}
+use Rattle.header_test.proofs.slots_apart.Given as goal
+
+abbrev pub invariant-loop-i : goal.invariant-loop-i
+invariant-loop-i l =
+    (l.i ≤ l.n) × (slotsApart l.f l.seen (decodeRecord l.d).entries ≡ slotsApart l.f l.seen (drop l.i (decodeRecord l.d).entries))
+
+abbrev pub decreases-loop-i : goal.decreases-loop-i
+decreases-loop-i l =
+    l.n - l.i

@@ -1,0 +1,12 @@
+-- The invariant of `next_field`: what is left of the line decides.
+use mathlib.Core.Path.{◌≡◌}
+use Prim.Native.Nat.{◌-◌, ◌≤◌}
+use lib.ListN.{length, drop}
+use Rattle.script.specs.Fields.{behindSpace}
+use Rattle.script.proofs.fields.next_field.Given as goal
+
+abbrev pub invariant-loop-i : goal.invariant-loop-i
+invariant-loop-i l = (l.i ≤ length l.line) × (behindSpace (drop l.at l.line) ≡ behindSpace (drop l.i l.line))
+
+abbrev pub decreases-loop-i : goal.decreases-loop-i
+decreases-loop-i l = length l.line - l.i

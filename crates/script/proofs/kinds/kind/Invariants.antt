@@ -1,0 +1,12 @@
+-- The invariant of `kind`: what is left of the table decides.
+use mathlib.Core.Path.{◌≡◌}
+use Prim.Native.Nat.{◌-◌, ◌≤◌}
+use lib.ListN.{drop}
+use Rattle.script.specs.Kinds.{rows, kindIn, kindOf}
+use Rattle.script.proofs.kinds.kind.Given as goal
+
+abbrev pub invariant-loop-i : goal.invariant-loop-i
+invariant-loop-i l = (l.i ≤ 16) × (kindOf l.line ≡ kindIn (drop l.i rows) l.line)
+
+abbrev pub decreases-loop-i : goal.decreases-loop-i
+decreases-loop-i l = 16 - l.i

@@ -1,0 +1,12 @@
+-- `entries_held` meets its contract: what is left of the entries decides. A file that an entry names exists, so it has a holder.
+use Prim.Native.Nat.{◌<◌}
+use native.Mathlib.Omega.{arith}
+use lib.ListN.{length}
+use Rattle.volume.specs.Volumes.{view}
+use Rattle.volume.proofs.ReadLaws.{entry-file-is}
+use Rattle.sessions.proofs.marks_fit.entries_held.Goals as goal
+
+pub holder-requires : goal.holder-requires
+holder-requires c =
+    let lt : c.loop-i.i < length ((view c.args.v.now).records c.args.k).entries = omega arith in
+    (c.requires.0, rw c.entry_file-f.ensures (entry-file-is c.args.v.now c.requires.0 c.args.k c.loop-i.i (record { client = c.requires.1; below = lt })))

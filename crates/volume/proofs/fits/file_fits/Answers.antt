@@ -1,0 +1,8 @@
+-- `fits::file_fits` meets its contract: the tests of `fileFits`.
+use mathlib.Core.Bool.{and-true}
+use Rattle.lists.specs.Lists.{all}
+use Rattle.volume.proofs.fits.file_fits.Goals as goal
+
+pub returns : goal.returns
+unfolding all
+returns c = simp and-true
