@@ -1,6 +1,7 @@
 // The bytes of one sector: its size, its marks and its limits; readers of control sectors, the one store, and the edits
 // of a working sector.
 #![tactic(auto)]
+
 mod build;
 mod fresh;
 mod layout;

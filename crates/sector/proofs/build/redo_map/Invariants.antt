@@ -1,0 +1,18 @@
+-- The invariant of `redo_map`: the entries to come, applied to the buffer, give what all entries give of the buffer at the
+-- start.
+use mathlib.Core.Path.{◌≡◌}
+use mathlib.Core.List.{List}
+use Prim.Native.Nat.{◌-◌, ◌≤◌}
+use lib.ListN.{length, drop}
+use Rattle.sector.specs.Contents.{Entry}
+use Rattle.sector.specs.Decoding.{countIn, decodeRecord}
+use Rattle.sector.specs.Edits.{entriesApplied}
+use Rattle.sector.proofs.build.redo_map.Given as goal
+
+abbrev pub invariant-loop-i : goal.invariant-loop-i
+invariant-loop-i l =
+    let es : List Entry = (decodeRecord l.rec).entries in
+    (l.i ≤ l.n) × (l.n ≡ countIn l.rec) × (entriesApplied l.f (drop l.i es) l.buf ≡ entriesApplied l.f es l.initial.buf) × (length l.buf ≡ 256)
+
+abbrev pub decreases-loop-i : goal.decreases-loop-i
+decreases-loop-i l = l.n - l.i

@@ -1,0 +1,12 @@
+-- `entries_closed` meets its contract: or-ing an entry's last byte to `bits` keeps that all are closed just where `bits` is zero and
+-- those to come are; at the end none are to come.
+use mathlib.Core.Path.{sym}
+use native.Mathlib.Omega.{arith}
+use Rattle.sector.proofs.RecognizeLaws.{closed-more, closed-done}
+use Rattle.sector.proofs.recognize.entries_closed.Goals as goal
+
+pub loop-i-preserved : goal.loop-i-preserved
+loop-i-preserved c = closed-more c.args.d.now _ c.args.n c.loop-i.bits c.loop-i.i c.loop-i.invariant (omega arith)
+
+pub returns : goal.returns
+returns c = sym (closed-done c.args.d.now _ c.args.n c.loop-i.bits c.loop-i.i c.loop-i.invariant (omega arith))

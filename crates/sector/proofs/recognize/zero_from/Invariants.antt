@@ -1,0 +1,10 @@
+-- The invariant of `zero_from`: all bytes from `start` on are zero just where `bits` is and those from i on are.
+use mathlib.Core.Path.{◌≡◌}
+use mathlib.Core.Bool.{◌&&◌}
+use lib.Dec.{eqb}
+use lib.ListN.{drop}
+use Rattle.sector.specs.Encoded.{allZero}
+use Rattle.sector.proofs.recognize.zero_from.Given as goal
+
+abbrev pub invariant-loop-i : goal.invariant-loop-i
+invariant-loop-i l = allZero (drop l.start l.s) ≡ (eqb l.bits 0 && allZero (drop l.i l.s))
