@@ -190,7 +190,7 @@ pub fn commit(volume: &mut [u8], session: Session, client: u8, budget: u8) -> Re
         Verdict::Refused(r) => refuse(session, r),
         Verdict::Accepted => {
             let made = transaction::commit_stores(volume, client, budget);
-            end(made, sessions::without_client(session, 1))
+            end(made, sessions::without_client(session, client))
         }
     }
 }

@@ -2,9 +2,8 @@
 -- evaluates both sides.
 use mathlib.Core.Path.{◌≡◌, refl}
 use mathlib.Core.Bool.{true, false}
-use mathlib.Core.List.{List, [], ◌∷◌, map, ◌++◌}
+use mathlib.Core.List.{[], ◌∷◌, map, ◌++◌}
 use Prim.Native.Nat.{ℕ}
-use lib.ListN.{replicate}
 use Rattle.interface.specs.Answers.{newSession, done, crashed, refused, found, queryRefused, counted, countRefused, formatDone, formatRefused}
 use Rattle.lists.specs.Lists.{all}
 use Rattle.volume.specs.Volumes.{Volume, view, tableOf}
@@ -15,9 +14,8 @@ use Rattle.sector.specs.Decoding.{decodeTable, decodeFiles}
 use Rattle.rules.specs.Plans.{Call, begin, Query, readPage}
 use Rattle.rules.specs.Calls.{call, query}
 use Rattle.capi.specs.declared.VolSession.{VolSession}
-use Rattle.capi.specs.declared.VolReply.{VolReply}
 use Rattle.capi.specs.declared.VolAnswer.{VolAnswer}
-use Rattle.capi.specs.Passing.{sessionFrom, passedSession, hasOtherBits, passedAnswer, passedQuery, passedCount, passedFormat, replyWith, Passed, passedAfter, calledBy, askedBy}
+use Rattle.capi.specs.Passing.{sessionFrom, passedSession, hasOtherBits, passedAnswer, passedQuery, passedCount, passedFormat, replyWith, passedAfter, calledBy, askedBy}
 
 abbrev answer : ℕ → ℕ → VolAnswer
 answer kind number = record { kind = kind; number = number }

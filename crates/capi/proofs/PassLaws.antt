@@ -3,7 +3,7 @@
 use mathlib.Core.Path.{◌≡◌, refl, ap}
 use mathlib.Core.Bool.{Bool, true, false, false≢true}
 use mathlib.Core.List.{List}
-use Prim.Native.Nat.{ℕ, ◌+◌, ◌≤◌}
+use Prim.Native.Nat.{ℕ, ◌≤◌}
 use native.Mathlib.Omega.{arith}
 use borrow.Author.Tests.{le-ltb, ltb-false, eqb-true}
 use lib.Dec.{eqb}
@@ -18,8 +18,7 @@ use Rattle.rules.specs.Plans.{Call}
 use Rattle.rules.specs.Calls.{After, call}
 use Rattle.rules.proofs.CallLaws.{call-case}
 use Rattle.capi.specs.declared.VolSession.{VolSession}
-use Rattle.capi.specs.declared.VolReply.{VolReply}
-use Rattle.capi.specs.Passing.{sessionFrom, passedSession, hasOtherBits, Passed, passedAfter, calledBy}
+use Rattle.capi.specs.Passing.{sessionFrom, passedSession, hasOtherBits, calledBy}
 
 pub session-passed : (s : Session) → length s.active ≡ 4 → sessionFrom (passedSession s) ≡ s
 session-passed s h = session-back s h

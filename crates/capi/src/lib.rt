@@ -3,6 +3,7 @@
 // (`must-fail/fifth_bit_accepted`), and another session than the one given handed back by a refusal (`PassLaws.refused-given`);
 // of every answer, one kind taken for another (`must-fail/sector_as_refusal`).
 #![tactic(auto)]
+
 mod pass;
 
 ghost use Rattle.std.specs.Prelude.{◌≡◌};

@@ -1,5 +1,6 @@
 // The tests of the calls: each answers the first refusal that applies, or that none does.
 #![tactic(auto)]
+
 mod call;
 mod look;
 mod open;

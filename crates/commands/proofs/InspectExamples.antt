@@ -1,7 +1,7 @@
 -- Examples of the lines that set or show the session: which holds there is room for, what a line adds, and what is shown; and of the
 -- file that a question is about. The checker evaluates both sides.
 use mathlib.Core.Path.{◌≡◌, refl}
-use mathlib.Core.Bool.{Bool, true, false}
+use mathlib.Core.Bool.{true, false}
 use mathlib.Core.List.{List, [], ◌∷◌, map}
 use Prim.Native.Nat.{ℕ}
 use Prim.Native.String.{String}

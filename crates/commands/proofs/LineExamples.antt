@@ -1,12 +1,11 @@
 -- Examples of the lines that are calls: the step that each stands for, with its budget and without. The checker evaluates both sides.
 use mathlib.Core.Path.{◌≡◌, refl}
 use mathlib.Core.Bool.{false}
-use mathlib.Core.List.{List, [], ◌∷◌, map}
-use Prim.Native.String.{String}
+use mathlib.Core.List.{[], ◌∷◌, map}
 use Rattle.script.specs.Fields.{fromField}
 use Rattle.script.specs.Kinds.{bytesOf}
 use Rattle.rules.specs.Plans.{begin, openFile, openRead, write, commit, abort, readPage, lookPage}
-use Rattle.atomicity.specs.Runs.{Step, calls, asks}
+use Rattle.atomicity.specs.Runs.{calls, asks}
 use Rattle.commands.specs.declared.Action.{Action}
 use Rattle.commands.specs.Commands.{queryOf, stepOf}
 use Rattle.commands.specs.Lines.{values, lineCommand, lineStep}

@@ -1,6 +1,7 @@
 // Commands: the calls of scripts with their arguments, and one function that performs them. A step of a script of bytes
 // and a line of a script of text each become a command. Also the lines that show volume or session, or change them by hand.
 #![tactic(auto)]
+
 pub mod inspect;
 pub mod lines;
 mod performer;

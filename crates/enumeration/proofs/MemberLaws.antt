@@ -17,10 +17,12 @@ use Rattle.enumeration.specs.Lists.{In, listsOf}
 module _ {A : Type 0} where
   -- What holds at every element.
   pub every-in : (t : A → Bool) {x : A} {xs : List A} → every t xs ≡ true → In x xs → t x ≡ true
+  every-in t {xs = []} e p = elim p [ ]
   every-in t {x} {xs = y ∷ ys} e (Memᴰ.head q) = rw q (and-left (t y) _ e)
   every-in t {xs = y ∷ ys} e (Memᴰ.tail p) = every-in t (and-right (t y) _ e) p
 
   pub in-filter : (t : A → Bool) {x : A} {xs : List A} → t x ≡ true → In x xs → In x (filter t xs)
+  in-filter t {xs = []} e p = elim p [ ]
   in-filter t {x} {xs = y ∷ ys} e (Memᴰ.head q) = let h : t y ≡ true = rw (← q) e in rw h (Memᴰ.head q)
   in-filter t {x} {xs = y ∷ ys} e (Memᴰ.tail p) = go (t y) (in-filter t e p)
     where
@@ -35,6 +37,7 @@ module _ {A : Type 0} where
 
 pub in-flat : {A B : Type 0} (f : A → List B) {x : A} {xs : List A} {y : B} → In x xs → In y (f x) → In y (flat_map f xs)
 unfolding flat_map
+in-flat f {xs = []} p q = elim p [ ]
 in-flat f {xs = z ∷ zs} {y = y} (Memᴰ.head e) q = Memᴰ.append_left (flat_map f zs) (subst (λ x. In y (f x)) e q)
 in-flat f {xs = z ∷ zs} (Memᴰ.tail p) q = Memᴰ.append_right (f z) (in-flat f p q)
 
@@ -57,6 +60,7 @@ module _ {A : Type 0} (xs : List A) where
 -- ------------------------------------------------------------------ where an element comes from
 module _ {A : Type 0} where
   pub filter-has : (t : A → Bool) {x : A} (xs : List A) → In x (filter t xs) → (t x ≡ true) × In x xs
+  filter-has t [] p = elim p [ ]
   filter-has t {x} (y ∷ ys) p = go (t y) refl (filter-has t ys) p
     where
       go : (b : Bool) → t y ≡ b → (In x (filter t ys) → (t x ≡ true) × In x ys) → In x (if b then y ∷ filter t ys else filter t ys)

@@ -26,6 +26,7 @@ module _ {A B C : Type 0} (f : A → B → C) (ys : List B) where
   -- ------------------------------------------------------------------ where an element comes from
   pub pairs-case : {X : Type 0} (xs : List A) {z : C} → In z (pairs xs) → ((x : A) → In x xs → (y : B) → In y ys → z ≡ f x y → X) → X
   unfolding flat_map
+  pairs-case [] p k = elim p [ ]
   pairs-case (x ∷ xs) {z} p k = ⊎_elim
       (λ (q : In z (map (f x) ys)). let o = Memᴰ.of_map (f x) ys q in k x (Memᴰ.head refl) o.0 o.1 (sym o.2))
       (λ (q : In z (pairs xs)). pairs-case xs q (λ a m. k a (Memᴰ.tail m)))

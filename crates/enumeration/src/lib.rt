@@ -1,6 +1,7 @@
 // Every small volume: the sound volumes with T = 1, F = 1, P = 2, R = 3, N = 6 and every slot zero, put into a lent array one
 // after the other, by the bytes of the record and then of the header.
 #![tactic(auto)]
+
 mod candidate;
 mod choices;
 

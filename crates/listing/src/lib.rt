@@ -1,5 +1,6 @@
 // The listing of a volume, for people at the bench: a line for each client and one for each file, in ASCII.
 #![tactic(auto)]
+
 mod lines;
 
 ghost use Rattle.std.specs.Prelude.{◌≡◌, true, ◌≤◌, length, take};

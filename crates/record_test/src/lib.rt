@@ -1,5 +1,6 @@
 // An intentions record: it is one, its state fits, its entries name what there is, and no two of them the same page or slot.
 #![tactic(auto)]
+
 ghost use Rattle.std.specs.Prelude.{◌≡◌, true, ◌≤◌, ◌<◌, length};
 ghost use Rattle.sector.specs.Layout.{fileLimit, entryLimit};
 ghost use Rattle.sector.specs.Decoding.{fileCountIn, stateIn, countIn, entryIn, decodeTable, decodeRecord};

@@ -5,7 +5,7 @@ use Rattle.interface.specs.Answers.{newSession, refusalNumber, FormatAnswer, for
 use Rattle.lists.specs.Lists.{if◌then◌else◌}
 use Rattle.sector.specs.Contents.{Bytes, Table}
 use Rattle.volume.specs.Volumes.{Volume}
-use Rattle.volume.specs.Format.{Formatted, format}
+use Rattle.volume.specs.Format.{format}
 use Rattle.text.specs.Writes.{atFront}
 use Rattle.atomicity.specs.Model.{newModel}
 use Rattle.atomicity.specs.Runs.{Configuration, started, ranOver}

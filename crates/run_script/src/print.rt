@@ -80,10 +80,8 @@ fn put_hold(rt: &impl Print, s: Session, k: u8, f: u8) -> io::Result<()> {
 
 // The reading holds of this client, rising by file.
 fn put_holds(rt: &impl Print, s: Session, k: u8) -> io::Result<()> {
-    let mut f: u8 = 1;
-    while f < 17 {
+    for f in 1..17 {
         put_hold(rt, s, k, f)?;
-        f += 1;
     }
     Ok(())
 }

@@ -1,6 +1,7 @@
 // The stores of each call, for a call that isn't refused: each function requires what the tests of its call establish,
 // and makes the stores of the call's plan, as many as the budget allows.
 #![tactic(auto)]
+
 mod abort;
 mod begin;
 mod commit;

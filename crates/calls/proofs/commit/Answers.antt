@@ -1,5 +1,6 @@
 -- `commit` meets its contract: a refusal is the call's, and so are the stores of its plan.
 use mathlib.Core.Path.{◌∙◌}
+use native.Mathlib.Omega.{arith}
 use Rattle.rules.specs.Plans.{commit}
 use Rattle.calls.proofs.FactLaws.{call-formed, acts}
 use Rattle.calls.proofs.AnswerLaws.{refused-call, ended-call}
@@ -13,7 +14,7 @@ commit_stores-made-requires c =
 pub without_client-requires : goal.without_client-requires
 without_client-requires c =
     let w = acts c.args.volume.now c.args.session c.args.client c.in-Accepted.ensures in
-    (w.client.low, w.few)
+    (omega (arith, w.client.low), omega (arith, w.few))
 
 pub returns-in-Refused : goal.returns-in-Refused
 returns-in-Refused c =

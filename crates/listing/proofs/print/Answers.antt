@@ -1,0 +1,36 @@
+-- `print` meets its contract: each of its tests leaves one text to print, and that text is written at the front.
+use mathlib.Core.Path.{◌≡◌, sym, ◌∙◌}
+use mathlib.Core.Bool.{true, false}
+use native.Mathlib.Omega.{arith}
+use borrow.Author.Tests.{lt-ltb}
+use Rattle.volume.specs.Sound.{sound}
+use Rattle.listing.specs.Listed.{toPrint}
+use Rattle.listing.proofs.ListingLaws.{listing-fits}
+use Rattle.listing.proofs.PrintLaws.{printed-long, printed-unsound, printed-listing, print-ends}
+use Rattle.listing.proofs.print.Goals as goal
+
+pub returns-then-out-lt-ROOM-clause-out_after : goal.returns-then-out-lt-ROOM-clause-out_after
+unfolding toPrint
+returns-then-out-lt-ROOM-clause-out_after c = rw (lt-ltb _ _ c.if-out-lt-ROOM.true)
+
+pub returns-then-v-gt-LONGEST-clause-out_after : goal.returns-then-v-gt-LONGEST-clause-out_after
+returns-then-v-gt-LONGEST-clause-out_after c =
+    (print-ends c.args.v.now c.args.out.now _ _ _ (omega arith) (omega arith) (printed-long _ (omega arith)) c.put.ensures).0
+
+pub returns-then-not-is_sound-clause-out_after : goal.returns-then-not-is_sound-clause-out_after
+returns-then-not-is_sound-clause-out_after c =
+    let v = c.args.v.now in
+    let bad : sound v ≡ false = sym c.is_sound.ensures ∙ c.if-not-is_sound.true in
+    (print-ends v c.args.out.now _ _ _ (omega arith) (omega arith) (printed-unsound v (omega arith) bad) c.put-then-not-is_sound.ensures).0
+
+pub returns-clause-out_after : goal.returns-clause-out_after
+returns-clause-out_after c =
+    let v = c.args.v.now in
+    let ok : sound v ≡ true = sym c.is_sound.ensures ∙ c.if-not-is_sound.false in
+    (print-ends v c.args.out.now _ _ _ (omega arith) (listing-fits v ok) (printed-listing v (omega arith) ok) c.list_lines.ensures).0
+
+pub returns-clause-upper_bound : goal.returns-clause-upper_bound
+returns-clause-upper_bound c =
+    let v = c.args.v.now in
+    let ok : sound v ≡ true = sym c.is_sound.ensures ∙ c.if-not-is_sound.false in
+    (print-ends v c.args.out.now _ _ _ (omega arith) (listing-fits v ok) (printed-listing v (omega arith) ok) c.list_lines.ensures).1
