@@ -78,12 +78,6 @@ none-above w i j z h =
     let q : w / 2 ^ j ≡ 0 = ap (λ (x : ℕ). w / 2 ^ x) m ∙ sym (shr-shr w i (j - i)) ∙ rw z (omega (arith, le)) in
     bit-is w j ∙ rw q
 
--- In a word of w bits 1 is shifted to bit i, and none is lost.
-pub one-shifted : (i w : ℕ) → i < w → 1 * 2 ^ i % 2 ^ w ≡ 2 ^ i
-one-shifted i w h =
-    let z : 1 * 2 ^ i ≡ 2 ^ i = omega arith in
-    shl_exact {a = 1} 1 i w (omega arith) (omega arith) ∙ z
-
 -- ------------------------------------------------------------------ by halves
 -- The lowest bit, and those above it in the word's half.
 pub bit-low : (w : ℕ) → hasBit w 0 ≡ not (eqb (w % 2) 0)

@@ -15,9 +15,6 @@ use Rattle.byteset.specs.Bits.{hasBit}
 use Rattle.byteset.specs.Set.{noBytes, hasByte, withByte}
 use Rattle.byteset.proofs.BitLaws.{bit-same, bit-other, one-shifted}
 
-pub mask-is : (x r : ℕ) → r ≡ x % 64 → 1 * 2 ^ r % 18446744073709551616 ≡ 2 ^ (x % 64)
-mask-is x r e = rw e (one-shifted (x % 64) 64 (omega arith))
-
 -- A set whose words are zero has nothing in it.
 pub has-zeros : (n y : ℕ) → hasByte (replicate n 0) y ≡ false
 unfolding hasByte

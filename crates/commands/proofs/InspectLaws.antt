@@ -18,21 +18,6 @@ use Rattle.script.specs.Fields.{argument}
 use Rattle.commands.specs.Lines.{byteArgument}
 use Rattle.commands.specs.Inspect.{isRemark, isHold, readingAdded, Poked, poked, dumped}
 
-pub remark-empty : (l : Bytes) → length l ≡ 0 → true ≡ isRemark l
-remark-empty [] h = refl
-remark-empty (c ∷ l) h = absurd (omega arith)
-
-pub remark-first : (l : Bytes) → 0 < length l → eqb (get_or l 0 0) 0x23 ≡ isRemark l
-remark-first [] h = absurd (omega arith)
-remark-first (c ∷ l) h = refl
-
--- A hold that a session has room for.
-pub hold-limits : (k f : ℕ) → isHold k f ≡ true → (1 ≤ k) × (k ≤ 4) × (1 ≤ f) × (f ≤ 16)
-hold-limits k f e =
-    let c = between-true 1 k 4 (and-left (between 1 k 4) _ e) in
-    let g = between-true 1 f 16 (and-right (between 1 k 4) _ e) in
-    (c.0, c.1, g.0, g.1)
-
 -- k and f are the first two arguments.
 module _ (s : Session) (l : Bytes) (k f : ℕ) (e : k ≡ byteArgument 1 l) (g : f ≡ byteArgument 2 l) where
   pub hold-added : isHold k f ≡ true → record { is_understood = true; session = withReading s k f } ≡ readingAdded s l

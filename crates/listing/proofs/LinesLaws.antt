@@ -74,7 +74,3 @@ module _ {line : ℕ → Bytes} {n : ℕ} {b c : Bytes} {start k at : ℕ} (now 
     rest = λ w m x. now.rest w m (rw (lines-from line n k h) (wrote-more one x));
   }
 
-  pub writing-ends : n < k → Wrote b start (lines line (from 1 n)) c at
-  writing-ends h =
-      let m : n + 1 - k ≡ 0 = omega arith in
-      now.rest c at (rw m (wrote-none c at))

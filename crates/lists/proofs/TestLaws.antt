@@ -56,14 +56,6 @@ or-zero a b = iff _ _ to back
         let zb : b ≡ 0 = eqb-true b 0 (and-right (eqb a 0) _ e) in
         rw (za, zb)
 
--- A sum is zero only where both numbers are; the second may be multiplied by n.
-pub sum-zero : (a b n : ℕ) → 0 < n → eqb (a + n * b) 0 ≡ (eqb a 0 && eqb b 0)
-sum-zero zero zero n h = let z : 0 + n * 0 ≡ 0 = omega arith in rw z
-sum-zero zero (suc b) n h =
-    let z : n * suc b ≡ n + n * b = omega arith in
-    ne_eqb (0 + n * suc b) 0 (λ q. omega (arith, z, q, h)) ∙ sym (ne_eqb (suc b) 0 (λ q. omega (arith, q)))
-sum-zero (suc a) b n h = ne_eqb (suc a + n * b) 0 (λ q. omega (arith, q)) ∙ sym (rw (ne_eqb (suc a) 0 (λ q. omega (arith, q))) refl)
-
 -- ------------------------------------------------------------------ a list of tests
 -- Test i fails.
 pub all-no : (bs : List Bool) (i : ℕ) → get_or bs i true ≡ false → all bs ≡ false
@@ -120,9 +112,6 @@ module _ {A : Type 0} (xs : List A) (i : ℕ) (x : A) (next : drop i xs ≡ x �
   pub taken-more : (t : A → Bool) (a b : Bool) → (a || any t (drop i xs)) ≡ w → b ≡ (t x || a) → (b || any t (drop (i + 1) xs)) ≡ w
   taken-more t a b q e = rw e (or-turn (t x) a (any t (drop (i + 1) xs))) ∙ sym (ap (λ (l : List A). a || any t l) next) ∙ q
 
-pub taken-done : {A : Type 0} (xs : List A) (i : ℕ) → drop i xs ≡ [] → (t : A → Bool) (w a : Bool) → (a || any t (drop i xs)) ≡ w → a ≡ w
-taken-done {A} xs i end t w a q = sym (or-false a) ∙ sym (ap (λ (l : List A). a || any t l) end) ∙ q
-
 -- ------------------------------------------------------------------ a loop over the numbers from i on, below n
 module _ (t : ℕ → Bool) (w : Bool) (n i : ℕ) (q : w ≡ every t (from i (n - i))) where
   pub numbers-more : i < n → t i ≡ true → w ≡ every t (from (i + 1) (n - (i + 1)))
@@ -133,10 +122,6 @@ module _ (t : ℕ → Bool) (w : Bool) (n i : ℕ) (q : w ≡ every t (from i (n
 
   pub numbers-done : n ≤ i → w ≡ true
   numbers-done h = let m : n - i ≡ 0 = omega arith in q ∙ rw m
-
--- Where it begins: n numbers, below m.
-pub numbers-none : (t : ℕ → Bool) (i n m : ℕ) → m ≡ i + n → every t (from i n) ≡ every t (from i (m - i))
-numbers-none t i n m e = let k : m - i ≡ n = omega arith in rw k
 
 -- Two tests of each number, together or one after the other.
 pub every-both : (t a b : ℕ → Bool) (n i : ℕ) → ((k : ℕ) → i ≤ k → k < i + n → t k ≡ (a k && b k))

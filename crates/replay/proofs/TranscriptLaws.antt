@@ -194,12 +194,6 @@ entry-is at l i j =
 pub wrote-byte : (b : Bytes) (at x : ℕ) → Wrote b at (x ∷ []) (set b at x) (at + 1)
 wrote-byte b at x = record { bytes = refl; next = refl }
 
-pub wrote-word : (b : Bytes) (at n x y : ℕ) → x ≡ n % 256 → y ≡ n / 256 % 256 → n < 65536
-    → Wrote b at (wordBytes n []) (set (set b at x) (at + 1) y) (at + 2)
-wrote-word b at n x y e f h =
-    let y' : y ≡ n / 256 = omega arith in
-    record { bytes = rw (e, y', add-one at); next = refl }
-
 -- What was written has kept the length of the buffer.
 pub wrote-length : {b d c : Bytes} {at n : ℕ} → Wrote b at d c n → length c ≡ length b
 wrote-length {b} {d} {c} {at} w = ap length w.bytes ∙ length-sets b at d

@@ -9,9 +9,6 @@ use Rattle.script.specs.declared.Kind.{Kind}
 use Rattle.script.specs.declared.Row.{Row}
 use Rattle.script.specs.Kinds.{limits, limit, fits, kindIn}
 
-pub limit-rest : (x : Row) (i : ℕ) → 5 ≤ i → 255 ≡ limit x i
-limit-rest x i h = sym (get_or-eq_default (limits x) 255 {n = i} h)
-
 module _ (xs : List Row) (l : Bytes) (k : Kind) (i : ℕ) (q : k ≡ kindIn (drop i xs) l) where
   module _ (x : Row) (next : drop i xs ≡ x ∷ drop (i + 1) xs) where
     pub kind-here : fits x l ≡ true → k ≡ x.0

@@ -43,8 +43,3 @@ in-hex l o p h e =
     let fits : 0 + length (hexText l) ≤ length o = omega (arith, hex-length l) in
     rw (le-ltb _ _ h, e, sets-eq (hexText l) o 0 fits, zero-add (length (hexText l)), ← hex-length l)
 
-pub hex-fits : (l o p : Bytes) → length l ≤ length o / 2 → p ≡ sets o 0 (hexText l)
-    → (2 * length l ≤ length p) × (2 * length l ≡ length (take (2 * length l) p))
-hex-fits l o p h e =
-    let n : length p ≡ length o = rw (e) (length-sets o 0 (hexText l)) in
-    (omega arith, omega (arith, length-take (2 * length l) p))

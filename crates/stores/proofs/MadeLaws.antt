@@ -49,9 +49,6 @@ module _ (r : Run) {q : Run} (e : q ≡ counted r) where
   going-is : not q.crashed ≡ goesOn r
   going-is = by-test (goesOn r) (λ g. rw (e, g)) (λ g. rw (e, g))
 
-  pub put-going : not q.crashed ≡ true → r.crashed ≡ false
-  put-going c = not-true _ (and-left (not r.crashed) _ (sym going-is ∙ c))
-
   module _ {v : Volume} {x : Update} where
     pub put-made : {w : Volume} → not q.crashed ≡ true → w ≡ updated (view v).table v x → UpdatesMade v r (x ∷ []) w q
     unfolding allStores storesMade

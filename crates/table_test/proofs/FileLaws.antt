@@ -30,9 +30,6 @@ pub record FilesLeft (d : Bytes) (first h i : ℕ) : Type 0 where
   pub fits : every fileFits (files d) ≡ every fileFits (drop i (files d))
   pub ends : sectorAfter first (files d) ≡ sectorAfter h (drop i (files d))
 
-pub files-all : (d : Bytes) (first : ℕ) → FilesLeft d first first 0
-files-all d first = let z : fileCountIn d - 0 ≡ fileCountIn d = omega arith in record { headers = rw z; fits = refl; ends = refl }
-
 module _ {d : Bytes} {first h i : ℕ} (left : FilesLeft d first h i) where
   module _ (lt : i < fileCountIn d) where
     module _ (small : byte d (itemOffset i) < 256) where

@@ -17,9 +17,6 @@ use Rattle.sector.specs.Contents.{Bytes}
 use Rattle.volume.specs.Listing.{digit, decimal}
 use Rattle.text.specs.Writes.{Wrote, atFront}
 
-pub wrote-none : (b : Bytes) (at : ℕ) → Wrote b at [] b at
-wrote-none b at = record { bytes = refl; next = omega arith }
-
 -- Then e is written behind d.
 pub wrote-more : {b c f d e : Bytes} {at n m : ℕ} → Wrote b at d c n → Wrote c n e f m → Wrote b at (d ++ e) f m
 wrote-more {b} {c} {f} {d} {e} {at} x y = record {
@@ -32,13 +29,6 @@ pub wrote-front : {b c t : Bytes} {n : ℕ} → Wrote b 0 t c n → length t ≤
 wrote-front {b} {c} {t} w h =
     let fits : 0 + length t ≤ length b = omega arith in
     (w.bytes ∙ sets-eq t b 0 fits ∙ rw (zero-add (length t)), w.next ∙ zero-add (length t))
-
--- One byte of a text, which is the first of those from i on.
-pub put-turn : (t b : Bytes) (at i : ℕ) → i < length t
-    → sets (set b (at + i) (get_or t i 0)) (at + (i + 1)) (drop (i + 1) t) ≡ sets b (at + i) (drop i t)
-put-turn t b at i h =
-    let e : at + (i + 1) ≡ suc (at + i) = omega arith in
-    rw (e, add-one i, drop-cons t i 0 h)
 
 -- ------------------------------------------------------------------ a number
 module _ (n : ℕ) where
