@@ -30,9 +30,20 @@ clients-requires c =
 pub returns-then-clients-k : goal.returns-then-clients-k
 unfolding first
 returns-then-clients-k c =
-    rw (sym c.requires ∙ c.if-not-ok.false, sym c.session_fits.ensures ∙ c.if-not-session_fits.false, le-leb 1 _ c.if-k-lt1.false, lt-leb _ _ (rw c.clients.ensures at c.if-clients-k.true))
+    let low = le-leb 1 _ c.if-k-lt1.false in
+    rw (
+      sym c.requires ∙ c.if-not-ok.false,
+      sym c.session_fits.ensures ∙ c.if-not-session_fits.false,
+      low,
+      lt-leb _ _ (rw c.clients.ensures at c.if-clients-k.true),
+    )
 
 pub returns : goal.returns
 unfolding first
 returns c =
-    rw (sym c.requires ∙ c.if-not-ok.false, sym c.session_fits.ensures ∙ c.if-not-session_fits.false, le-leb 1 _ c.if-k-lt1.false, le-leb _ _ (rw c.clients.ensures at c.if-clients-k.false))
+    rw (
+      sym c.requires ∙ c.if-not-ok.false,
+      sym c.session_fits.ensures ∙ c.if-not-session_fits.false,
+      le-leb 1 _ c.if-k-lt1.false,
+      le-leb _ _ (rw c.clients.ensures at c.if-clients-k.false),
+    )

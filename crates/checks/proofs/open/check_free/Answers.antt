@@ -26,9 +26,17 @@ is_read_by_other-requires c =
 pub returns-then-is_read_by_other : goal.returns-then-is_read_by_other
 unfolding first
 returns-then-is_read_by_other c =
-    rw (sym c.is_file.ensures ∙ c.if-not-is_file.false, sym c.held_by_other.ensures ∙ c.if-held_by_other.false, sym c.is_read_by_other.ensures ∙ c.if-is_read_by_other.true)
+    rw (
+      sym c.is_file.ensures ∙ c.if-not-is_file.false,
+      sym c.held_by_other.ensures ∙ c.if-held_by_other.false,
+      sym c.is_read_by_other.ensures ∙ c.if-is_read_by_other.true,
+    )
 
 pub returns : goal.returns
 unfolding first
 returns c =
-    rw (sym c.is_file.ensures ∙ c.if-not-is_file.false, sym c.held_by_other.ensures ∙ c.if-held_by_other.false, sym c.is_read_by_other.ensures ∙ c.if-is_read_by_other.false)
+    rw (
+      sym c.is_file.ensures ∙ c.if-not-is_file.false,
+      sym c.held_by_other.ensures ∙ c.if-held_by_other.false,
+      sym c.is_read_by_other.ensures ∙ c.if-is_read_by_other.false,
+    )

@@ -21,8 +21,10 @@ returns-then-not-is_file c =
     rw (sym c.table_is_sound_in.ensures ∙ c.if-not-table_is_sound_in.false, sym c.is_file.ensures ∙ c.if-not-is_file.true)
 
 pub header-requires : goal.header-requires
-header-requires c =
-    (table-formed c.args.v.now (sym c.table_is_sound_in.ensures ∙ c.if-not-table_is_sound_in.false), file-of (view c.args.v.now).table c.args.f (sym c.is_file.ensures ∙ c.if-not-is_file.false))
+header-requires c = (
+  table-formed c.args.v.now (sym c.table_is_sound_in.ensures ∙ c.if-not-table_is_sound_in.false),
+  file-of (view c.args.v.now).table c.args.f (sym c.is_file.ensures ∙ c.if-not-is_file.false),
+)
 
 pub returns-then-not-has_header_mark : goal.returns-then-not-has_header_mark
 unfolding first

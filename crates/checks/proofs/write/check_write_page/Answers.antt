@@ -9,14 +9,17 @@ use Rattle.checks.proofs.VerdictLaws.{accepted, refuses, accepts, held-file, onl
 use Rattle.checks.proofs.write.check_write_page.Goals as goal
 
 pub holder-requires : goal.holder-requires
-holder-requires c =
-    (sound-formed c.args.v.now c.requires.0, held-file (view c.args.v.now) c.args.s c.args.k c.args.f (accepted _ c.in-Accepted.is c.check_held.ensures))
+holder-requires c = (
+  sound-formed c.args.v.now c.requires.0,
+  held-file (view c.args.v.now) c.args.s c.args.k c.args.f (accepted _ c.in-Accepted.is c.check_held.ensures),
+)
 
 pub returns-then-holder-k : goal.returns-then-holder-k
 returns-then-holder-k c =
     let e = accepted _ c.in-Accepted.is c.check_held.ensures in
     accepts _ _ c.in-Accepted.is c.check_held.ensures refl
-    (only-read (view c.args.v.now) c.args.s c.args.k c.args.f (pageMissing (view c.args.v.now) c.args.f c.args.p ∷ []) e (ne_eqb _ _ (λ z. c.if-holder-k.true (c.holder.ensures ∙ z))))
+    (only-read (view c.args.v.now) c.args.s c.args.k c.args.f (pageMissing (view c.args.v.now) c.args.f c.args.p ∷ []) e
+    (ne_eqb _ _ (λ z. c.if-holder-k.true (c.holder.ensures ∙ z))))
 
 pub check_page-requires : goal.check_page-requires
 check_page-requires c =
@@ -28,4 +31,5 @@ returns-in-Refused c = refuses _ _ c.in-Refused.is c.check_held.ensures
 pub returns-else-holder-k : goal.returns-else-holder-k
 returns-else-holder-k c =
     accepts _ _ c.in-Accepted.is c.check_held.ensures refl
-    (not-only-read (view c.args.v.now) c.args.s c.args.k c.args.f (pageMissing (view c.args.v.now) c.args.f c.args.p ∷ []) (eq-eqb _ _ (sym c.holder.ensures ∙ c.if-holder-k.false)) c.check_page.ensures)
+    (not-only-read (view c.args.v.now) c.args.s c.args.k c.args.f (pageMissing (view c.args.v.now) c.args.f c.args.p ∷ [])
+    (eq-eqb _ _ (sym c.holder.ensures ∙ c.if-holder-k.false)) c.check_page.ensures)

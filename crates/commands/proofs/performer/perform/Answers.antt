@@ -8,50 +8,57 @@ use Rattle.commands.proofs.performer.perform.Goals as goal
 
 pub returns-in-Begin : goal.returns-in-Begin
 returns-in-Begin c =
-    λ m. performed-call c.args.v.now c.begin.new.volume c.args.s c.given_session-g.result m c.told.result c.args.c.crash (begin c.args.c.client)
-    c.args.c.budget _ c.begin.result (step-by c.args.c c.args.bytes.now Action.Begin c.in-Begin.is) c.given_session-g.ensures
-    c.begin.ensures c.told.ensures
+    let plan = begin c.args.c.client in
+    let step = step-by c.args.c c.args.bytes.now Action.Begin c.in-Begin.is in
+    λ m. performed-call c.args.v.now c.begin.new.volume c.args.s c.given_session-g.result m c.told.result
+    c.args.c.crash plan c.args.c.budget _ c.begin.result step c.given_session-g.ensures c.begin.ensures c.told.ensures
 
 pub returns-in-Open : goal.returns-in-Open
 returns-in-Open c =
-    λ m. performed-call c.args.v.now c.open.new.volume c.args.s c.given_session-g.result m c.told-in-Open.result c.args.c.crash (openFile c.args.c.client c.args.c.file)
-    c.args.c.budget _ c.open.result (step-by c.args.c c.args.bytes.now Action.Open c.in-Open.is) c.given_session-g.ensures
-    c.open.ensures c.told-in-Open.ensures
+    let plan = openFile c.args.c.client c.args.c.file in
+    let step = step-by c.args.c c.args.bytes.now Action.Open c.in-Open.is in
+    λ m. performed-call c.args.v.now c.open.new.volume c.args.s c.given_session-g.result m c.told-in-Open.result
+    c.args.c.crash plan c.args.c.budget _ c.open.result step c.given_session-g.ensures c.open.ensures c.told-in-Open.ensures
 
 pub returns-in-OpenRead : goal.returns-in-OpenRead
 returns-in-OpenRead c =
-    λ m. performed-call c.args.v.now c.open_read.new.volume c.args.s c.given_session-g.result m c.told-in-OpenRead.result c.args.c.crash (openRead c.args.c.client c.args.c.file)
-    c.args.c.budget _ c.open_read.result (step-by c.args.c c.args.bytes.now Action.OpenRead c.in-OpenRead.is) c.given_session-g.ensures
-    c.open_read.ensures c.told-in-OpenRead.ensures
+    let plan = openRead c.args.c.client c.args.c.file in
+    let step = step-by c.args.c c.args.bytes.now Action.OpenRead c.in-OpenRead.is in
+    λ m. performed-call c.args.v.now c.open_read.new.volume c.args.s c.given_session-g.result m c.told-in-OpenRead.result
+    c.args.c.crash plan c.args.c.budget _ c.open_read.result step c.given_session-g.ensures c.open_read.ensures c.told-in-OpenRead.ensures
 
 pub returns-in-Write : goal.returns-in-Write
 returns-in-Write c =
-    λ m. performed-call c.args.v.now c.write.new.volume c.args.s c.given_session-g.result m c.told-in-Write.result c.args.c.crash (write c.args.c.client c.args.c.file c.args.c.page c.args.bytes.now)
-    c.args.c.budget _ c.write.result (step-by c.args.c c.args.bytes.now Action.Write c.in-Write.is) c.given_session-g.ensures
-    c.write.ensures c.told-in-Write.ensures
+    let plan = write c.args.c.client c.args.c.file c.args.c.page c.args.bytes.now in
+    let step = step-by c.args.c c.args.bytes.now Action.Write c.in-Write.is in
+    λ m. performed-call c.args.v.now c.write.new.volume c.args.s c.given_session-g.result m c.told-in-Write.result
+    c.args.c.crash plan c.args.c.budget _ c.write.result step c.given_session-g.ensures c.write.ensures c.told-in-Write.ensures
 
 pub returns-in-Commit : goal.returns-in-Commit
 returns-in-Commit c =
-    λ m. performed-call c.args.v.now c.commit.new.volume c.args.s c.given_session-g.result m c.told-in-Commit.result c.args.c.crash (commit c.args.c.client)
-    c.args.c.budget _ c.commit.result (step-by c.args.c c.args.bytes.now Action.Commit c.in-Commit.is) c.given_session-g.ensures
-    c.commit.ensures c.told-in-Commit.ensures
+    let plan = commit c.args.c.client in
+    let step = step-by c.args.c c.args.bytes.now Action.Commit c.in-Commit.is in
+    λ m. performed-call c.args.v.now c.commit.new.volume c.args.s c.given_session-g.result m c.told-in-Commit.result
+    c.args.c.crash plan c.args.c.budget _ c.commit.result step c.given_session-g.ensures c.commit.ensures c.told-in-Commit.ensures
 
 pub returns-in-Abort : goal.returns-in-Abort
 returns-in-Abort c =
-    λ m. performed-call c.args.v.now c.abort.new.volume c.args.s c.given_session-g.result m c.told-in-Abort.result c.args.c.crash (abort c.args.c.client)
-    c.args.c.budget _ c.abort.result (step-by c.args.c c.args.bytes.now Action.Abort c.in-Abort.is) c.given_session-g.ensures
-    c.abort.ensures c.told-in-Abort.ensures
+    let plan = abort c.args.c.client in
+    let step = step-by c.args.c c.args.bytes.now Action.Abort c.in-Abort.is in
+    λ m. performed-call c.args.v.now c.abort.new.volume c.args.s c.given_session-g.result m c.told-in-Abort.result
+    c.args.c.crash plan c.args.c.budget _ c.abort.result step c.given_session-g.ensures c.abort.ensures c.told-in-Abort.ensures
 
 pub returns-in-Read : goal.returns-in-Read
 returns-in-Read c =
-    λ m. performed-query c.args.v.now c.args.s c.given_session-g.result m c.asked.result c.args.c.crash
-    (readPage c.args.c.client c.args.c.file c.args.c.page) _ c.read.result
-    (step-by c.args.c c.args.bytes.now Action.Read c.in-Read.is) c.given_session-g.ensures c.read.ensures c.asked.ensures
+    let asked = readPage c.args.c.client c.args.c.file c.args.c.page in
+    let step = step-by c.args.c c.args.bytes.now Action.Read c.in-Read.is in
+    λ m. performed-query c.args.v.now c.args.s c.given_session-g.result m c.asked.result
+    c.args.c.crash asked _ c.read.result step c.given_session-g.ensures c.read.ensures c.asked.ensures
 
 pub returns-in-Look : goal.returns-in-Look
 returns-in-Look c =
+    let asked = lookPage c.args.c.file c.args.c.page in
+    let step = step-by c.args.c c.args.bytes.now Action.Look c.in-Look.is in
     let same = look-asked c.args.v.now c.given_session-g.result c.args.c.file c.args.c.page in
-    λ m. performed-query c.args.v.now c.args.s c.given_session-g.result m c.asked-in-Look.result c.args.c.crash
-    (lookPage c.args.c.file c.args.c.page) _ c.look.result
-    (step-by c.args.c c.args.bytes.now Action.Look c.in-Look.is) c.given_session-g.ensures (c.look.ensures ∙ sym same)
-    c.asked-in-Look.ensures
+    λ m. performed-query c.args.v.now c.args.s c.given_session-g.result m c.asked-in-Look.result
+    c.args.c.crash asked _ c.look.result step c.given_session-g.ensures (c.look.ensures ∙ sym same) c.asked-in-Look.ensures

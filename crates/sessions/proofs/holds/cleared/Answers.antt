@@ -18,7 +18,8 @@ overflow_sub-s c =
 pub returns-then-word-m-ne0 : goal.returns-then-word-m-ne0
 unfolding withoutBit
 returns-then-word-m-ne0 c =
-    let on : hasBit (filesRead c.args.s c.args.k) (c.args.f - 1) ≡ true = ap not (ne_eqb _ _ (rw (c.mask-m.ensures, c.wide-at.ensures.0) at c.if-word-m-ne0.true)) in
+    let on : hasBit (filesRead c.args.s c.args.k) (c.args.f - 1) ≡ true =
+    ap not (ne_eqb _ _ (rw (c.mask-m.ensures, c.wide-at.ensures.0) at c.if-word-m-ne0.true)) in
     rw (c.mask-m.ensures, c.wide-at.ensures.0, on)
 
 pub returns-else-word-m-ne0 : goal.returns-else-word-m-ne0

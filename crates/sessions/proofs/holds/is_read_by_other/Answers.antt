@@ -9,7 +9,8 @@ use Rattle.sessions.proofs.holds.is_read_by_other.Goals as goal
 
 pub returns-then-all_holds-eq0 : goal.returns-then-all_holds-eq0
 returns-then-all_holds-eq0 c =
-    sym (none-read c.args.s c.args.k c.args.f (λ j lo hi. none-reading c.args.s (sym c.all_holds.ensures ∙ eq-eqb _ 0 c.if-all_holds-eq0.true) j c.args.f lo hi))
+    sym (none-read c.args.s c.args.k c.args.f
+    (λ j lo hi. none-reading c.args.s (sym c.all_holds.ensures ∙ eq-eqb _ 0 c.if-all_holds-eq0.true) j c.args.f lo hi))
 
 pub returns : goal.returns
 unfolding isReadByOther
