@@ -138,9 +138,6 @@ module _ {A : Type 0} where
 -- ------------------------------------------------------------------ a loop that searches a list, by index
 -- What is left to search decides what is found.
 module _ {A : Type 0} (xs : List A) (i : ℕ) (x : A) (next : drop i xs ≡ x ∷ drop (i + 1) xs) (t : A → Bool) where
-  pub find-more : (w : Option A) → w ≡ find t (drop i xs) → t x ≡ false → w ≡ find t (drop (i + 1) xs)
-  find-more w q e = q ∙ rw (next, e)
-
   pub find-hit : (w : Option A) → w ≡ find t (drop i xs) → t x ≡ true → w ≡ some x
   find-hit w q e = q ∙ rw (next, e)
 
