@@ -3,8 +3,7 @@
 use mathlib.Core.Path.{◌≡◌, refl, sym, ap, ◌∙◌}
 use mathlib.Core.Bool.{true, false, not}
 use mathlib.Core.List.{List, [], ◌∷◌, ◌++◌}
-use borrow.Author.Tests.{not-true}
-use Rattle.lists.proofs.ListLaws.{and-left, no-both}
+use Rattle.lists.proofs.ListLaws.{no-both}
 use Rattle.lists.proofs.CaseLaws.{by-test}
 use Rattle.volume.specs.Views.{View, Update}
 use Rattle.volume.specs.Volumes.{Volume, view}

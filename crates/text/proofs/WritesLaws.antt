@@ -9,8 +9,8 @@ use native.Mathlib.Numerals.{add-one}
 use native.Mathlib.Omega.{arith}
 use borrow.Author.Tests.{lt-ltb, le-ltb}
 use lib.Dec.{ltb}
-use lib.ListN.{length, drop, get_or, set, length-append}
-use lib.Seq.{sets, sets-eq, drop-cons}
+use lib.ListN.{length, set, length-append}
+use lib.Seq.{sets-eq}
 use Rattle.lists.specs.Lists.{if◌then◌else◌}
 use Rattle.lists.proofs.ListLaws.{sets-append}
 use Rattle.sector.specs.Contents.{Bytes}

@@ -1,5 +1,5 @@
--- `decided_slot` meets its contract: nobody holds the file, or its holder isn't decided, so its decided map is its map; else the entry of
--- the holder's record decides.
+-- `decided_slot` meets its contract: on a sound volume, which is well-formed, who holds the file is a client; where that client is
+-- decided, the entry of its record decides.
 use Rattle.std.proofs.Common.{◌∙◌, sym}
 use borrow.Author.Tests.{eq-eqb}
 use Rattle.volume.proofs.WellFormedLaws.{sound-formed}

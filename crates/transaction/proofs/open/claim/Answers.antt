@@ -1,4 +1,4 @@
--- `claim` meets its contract: the header as read, with holder k. A run that has crashed makes no store.
+-- `claim` meets its contract: a run that has crashed makes no store.
 use Rattle.stores.proofs.MadeLaws.{made-crashed}
 use Rattle.transaction.proofs.open.claim.Goals as goal
 

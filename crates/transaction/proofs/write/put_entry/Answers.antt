@@ -1,4 +1,4 @@
--- `put_entry` meets its contract: the record as read, with one entry more.
+-- `put_entry` meets its contract: a run that has crashed makes no store, and the record as read has room for one entry more.
 use Rattle.std.proofs.Common.{◌∙◌}
 use Rattle.volume.proofs.ReadLaws.{count-in}
 use Rattle.stores.proofs.MadeLaws.{made-crashed}

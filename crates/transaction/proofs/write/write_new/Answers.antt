@@ -1,4 +1,4 @@
--- `write_new` meets its contract: the page, then the record.
+-- `write_new` meets its contract: the page, then the record, on a volume that is still well-formed.
 use Rattle.transaction.proofs.WriteStoreLaws.{written-formed, write-more}
 use Rattle.transaction.proofs.write.write_new.Goals as goal
 
