@@ -11,7 +11,7 @@ use native.Mathlib.Omega.{arith}
 use borrow.Author.Tests.{ne_eqb, ltb-true, ltb-false}
 use lib.Bits.{bit_and, bit_or, and_mask, and_step, and_high, or_shr, or_mod}
 use lib.Dec.{eqb, ltb}
-use lib.Pow.{pow-add, pow_pos, pow-lt, shl-shr, shl_exact, shr-shr, shr_le, high}
+use lib.Pow.{pow-add, pow_pos, pow-lt, shl-shr, shr-shr, shr_le, high}
 use Rattle.lists.proofs.CaseLaws.{by-test, by-equal}
 use Rattle.lists.proofs.SearchLaws.{or-true}
 use Rattle.lists.proofs.TestLaws.{not-and, or-zero}

@@ -3,7 +3,7 @@ use mathlib.Core.Path.{◌≡◌, refl, sym, ap}
 use mathlib.Core.Bool.{Bool, true, false, ◌||◌}
 use mathlib.Core.List.{List}
 use mathlib.Core.Logic.{◌≢◌}
-use Prim.Native.Nat.{ℕ, ◌*◌, ◌/◌, ◌%◌, ◌^◌, ◌<◌}
+use Prim.Native.Nat.{ℕ, ◌/◌, ◌%◌, ◌^◌, ◌<◌}
 use native.Mathlib.Omega.{arith}
 use borrow.Author.Tests.{eqb-true, eqb-false, eq-eqb, ne_eqb}
 use lib.Bits.{bit_or}
@@ -13,7 +13,7 @@ use lib.Seq.{get_or-set_same, get_or-set_other}
 use Rattle.lists.proofs.ListLaws.{zeros-at}
 use Rattle.byteset.specs.Bits.{hasBit}
 use Rattle.byteset.specs.Set.{noBytes, hasByte, withByte}
-use Rattle.byteset.proofs.BitLaws.{bit-same, bit-other, one-shifted}
+use Rattle.byteset.proofs.BitLaws.{bit-same, bit-other}
 
 -- A set whose words are zero has nothing in it.
 pub has-zeros : (n y : ℕ) → hasByte (replicate n 0) y ≡ false

@@ -11,7 +11,7 @@ use Rattle.lists.specs.Lists.{from}
 use Rattle.sector.specs.Contents.{Bytes}
 use Rattle.volume.specs.Listing.{decimal, stateWord, clientText, sectorsText, pagesText, clientLine, fileLine, lines}
 use Rattle.text.specs.Writes.{Wrote}
-use Rattle.text.proofs.WritesLaws.{wrote-none, wrote-more}
+use Rattle.text.proofs.WritesLaws.{wrote-more}
 
 -- ------------------------------------------------------------------ one line
 pub client-length : (k state count : ℕ)

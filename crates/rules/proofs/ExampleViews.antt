@@ -1,12 +1,12 @@
 -- The sessions and views that the examples evaluate the definitions at. Nothing is claimed here.
-use mathlib.Core.Bool.{Bool, true, false}
+use mathlib.Core.Bool.{true, false}
 use mathlib.Core.List.{List, [], ◌∷◌}
 use Prim.Native.Nat.{ℕ}
 use lib.Dec.{eqb}
 use Rattle.interface.specs.declared.Session.{Session}
 pub use Rattle.interface.proofs.AnswerExamples.{marks}
 use Rattle.lists.specs.Lists.{if◌then◌else◌}
-use Rattle.sector.specs.Contents.{Bytes, Table, Entry, Record, Header, idleRecord}
+use Rattle.sector.specs.Contents.{Bytes, Table, Record, Header, idleRecord}
 use Rattle.volume.specs.Views.{View, noHeader}
 pub use Rattle.volume.proofs.PlaceExamples.{entry, rec, header}
 

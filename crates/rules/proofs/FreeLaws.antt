@@ -11,7 +11,7 @@ use borrow.Author.Tests.{eqb-true, eqb-false, eq-eqb, ne_eqb}
 use lib.Dec.{eqb}
 use Rattle.interface.specs.declared.Session.{Session}
 use Rattle.lists.specs.Lists.{if◌then◌else◌, every, member}
-use Rattle.sector.specs.Contents.{Bytes, Entry, Header, idleRecord}
+use Rattle.sector.specs.Contents.{Bytes, Entry, idleRecord}
 use Rattle.lists.proofs.ListLaws.{and-left, and-right, and-both, or-none}
 use Rattle.lists.proofs.CaseLaws.{by-equal, if-test}
 use Rattle.lists.proofs.SearchLaws.{or-true, every-end}

@@ -14,7 +14,7 @@ use Rattle.volume.specs.Places.{sectorAfter}
 use Rattle.volume.specs.Views.{View, noHeader}
 use Rattle.volume.specs.Lawful.{lawful}
 use Rattle.rules.specs.Sessions.{isReading, isReadByOther, markFits, holdFits, clientHoldsFit, sessionFits}
-use Rattle.rules.specs.Plans.{Call, begin, openFile, openRead, write, commit, abort, readPage, lookPage, freeSlots}
+use Rattle.rules.specs.Plans.{begin, openFile, openRead, write, commit, abort, readPage, lookPage, freeSlots}
 use Rattle.rules.specs.Refusals.{heldByOther, pageMissing, isNewPage, tests, queryTests}
 use Rattle.rules.proofs.ExampleViews.{marks, reads, active1, active2, active3, active12, entry, rec, header, viewOf, seen, records, at}
 

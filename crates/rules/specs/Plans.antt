@@ -3,7 +3,7 @@ use Rattle.std.specs.Prelude.{Bool, true, false, not, ◌&&◌, List, [], ◌∷
 use Rattle.std.proofs.Math.Option.{Option, none, some}
 use Rattle.interface.specs.declared.Session.{Session}
 use Rattle.lists.specs.Lists.{if◌then◌else◌, any, filter, find, member, from}
-use Rattle.sector.specs.Contents.{Bytes, File, Entry, Record, Header, openRecord, decidedRecord, appended}
+use Rattle.sector.specs.Contents.{Bytes, Entry, openRecord, decidedRecord, appended}
 use Rattle.sector.specs.Entries.{forPage, givesSlot}
 use Rattle.volume.specs.Places.{fileAt}
 use Rattle.volume.specs.Views.{View, Update, setRecord, setHeader, setSlot}

@@ -5,7 +5,7 @@ use Rattle.std.specs.Prelude.{Bool, not, ◌&&◌, ◌||◌, List, [], ◌∷◌
 use Rattle.interface.specs.declared.Session.{Session}
 use Rattle.lists.specs.Lists.{isSome}
 use Rattle.sector.specs.Layout.{entryLimit}
-use Rattle.sector.specs.Contents.{Bytes, File, Entry, Record, Header}
+use Rattle.sector.specs.Contents.{Bytes}
 use Rattle.volume.specs.Places.{isClient, isFile, fileAt}
 use Rattle.volume.specs.Views.{View}
 use Rattle.rules.specs.Sessions.{isActive, isReading, isReadByOther, holds, holdsEither, sessionFits}
