@@ -19,7 +19,6 @@ use Rattle.sector.specs.Shapes.{filesOf}
 use Rattle.sector.specs.Encoding.{fileBytes, encodeTable, entryBytes, encodeRecord, encodeHeader}
 use Rattle.sector.specs.Decoding.{decodeFiles, decodeTable, decodeEntries, decodeRecord, decodeHeader}
 use Rattle.volume.specs.Places.{sectorAfter, IsClient, IsFile, IsPage}
-use Rattle.volume.specs.Views.{View}
 use Rattle.volume.specs.Volumes.{Volume, tableOf, recordIn, headerIn, slotIn, view}
 use Rattle.volume.specs.Stores.{cutAt, allStores}
 use Rattle.volume.specs.Lawful.{lawful}
@@ -30,9 +29,9 @@ use Rattle.rules.specs.Recovery.{heldFiles, recovery}
 use Rattle.rules.specs.Plans.{Call, begin, openFile, openRead, write, commit, abort, readPage, beginPlan, openReadPlan, plan}
 use Rattle.rules.specs.Refusals.{tests, queryTests}
 use Rattle.rules.specs.Content.{decidedContent}
-use Rattle.rules.specs.Calls.{After, call, query, queryPart}
-use Rattle.rules.proofs.ExampleViews.{reads, active1, active12}
-use Rattle.atomicity.specs.Model.{Model, newModel, shown, modelCall}
+use Rattle.rules.specs.Calls.{call, query, queryPart}
+use Rattle.rules.proofs.ExampleViews.{reads, active12}
+use Rattle.atomicity.specs.Model.{newModel, shown, modelCall}
 use Rattle.atomicity.specs.Runs.{Step, calls, asks, Configuration, started, stepped, ranOver}
 use Rattle.atomicity.specs.NonVacuity.{calledAll, answersTo}
 use Rattle.atomicity.specs.Readers.{givenTo, Finds, ReadersShown, Unchanged, StepSteady, endsHold, HoldsStay, Steadily, ReadersSteady, ReadsThrough, SteadyWhile, sharing, ReadersShare}

@@ -25,7 +25,7 @@ use Rattle.rules.specs.Sessions.{isActive, setActive, withReading, withoutReader
 use Rattle.rules.specs.Plans.{Call, begin, openFile, openRead, write, commit, abort, entryFor, chosen, beginPlan, writePlan, plan, sessionAfter}
 use Rattle.rules.specs.Content.{decidedContent}
 use Rattle.rules.proofs.SessionLaws.{none-active, set-same, set-other, set-marks}
-use Rattle.rules.proofs.AllowedLaws.{Active, Others, MayBegin, MayAct, MayOpenRead, MayWrite, Allowed, own-record}
+use Rattle.rules.proofs.AllowedLaws.{Active, Others, MayBegin, MayAct, MayWrite, Allowed, own-record}
 use Rattle.rules.proofs.RecoveryLaws.{decidedView}
 use Rattle.atomicity.specs.Model.{noPending, Model, emptied, withPending, withPage, committed, isDeciding, effect}
 use Rattle.atomicity.proofs.KeepLaws.{pendingBy, pendingIn, Keeps, kept-content}

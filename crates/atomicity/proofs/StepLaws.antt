@@ -20,7 +20,7 @@ use Rattle.volume.specs.Views.{View, changedBy}
 use Rattle.volume.specs.Volumes.{Volume, view}
 use Rattle.volume.specs.Stores.{cutAt}
 use Rattle.volume.proofs.AccessLaws.{slot-is}
-use Rattle.volume.proofs.LawfulLaws.{Lawful, EntryFacts, entry-facts}
+use Rattle.volume.proofs.LawfulLaws.{Lawful, entry-facts}
 use Rattle.volume.proofs.AlongLaws.{Along, changed-table}
 use Rattle.volume.proofs.SoundLaws.{Fine, cut-view, cut-all, cut-fine}
 use Rattle.rules.specs.Sessions.{holds, noneActive}

@@ -24,7 +24,7 @@ use Rattle.volume.specs.Views.{View, Update, setRecord, setSlot, changed}
 use Rattle.volume.specs.Lawful.{entryFits, recordFits, apart}
 use Rattle.volume.proofs.PlaceLaws.{IsFile}
 use Rattle.volume.proofs.ViewLaws.{Placed}
-use Rattle.volume.proofs.LawfulLaws.{RecordFacts, Lawful, record-fits, entry-facts, decided-fits, lawful-record}
+use Rattle.volume.proofs.LawfulLaws.{Lawful, record-fits, entry-facts, decided-fits, lawful-record}
 use Rattle.volume.proofs.AlongLaws.{Along, last, step, along-map}
 use Rattle.rules.specs.Recovery.{isDecided, recovery}
 use Rattle.rules.specs.Plans.{Call, begin, openFile, openRead, write, commit, abort, entryFor, chosen, writePlan, plan}

@@ -6,7 +6,6 @@ use Rattle.interface.specs.Answers.{Answer, done, crashed, refused, QueryAnswer,
 use Rattle.sector.specs.Contents.{Bytes}
 use Rattle.sector.specs.Sectors.{sector}
 use Rattle.volume.specs.Places.{IsPage}
-use Rattle.volume.specs.Views.{View}
 use Rattle.volume.specs.Volumes.{Volume, view}
 use Rattle.volume.specs.Sound.{sound}
 use Rattle.volume.specs.Format.{tableFor, format}
@@ -14,7 +13,6 @@ use Rattle.rules.specs.Sessions.{holdsEither}
 use Rattle.rules.specs.Plans.{Call, openFile, openRead, readPage, lookPage}
 use Rattle.rules.specs.Content.{decidedContent}
 use Rattle.rules.specs.Calls.{After, call, query, queryPart, look, lookPart}
-use Rattle.atomicity.specs.Model.{Model}
 use Rattle.atomicity.specs.Runs.{Step, calls, asks, Configuration, started, given, stepped, ranOver}
 use Rattle.atomicity.specs.Readers.{Finds}
 

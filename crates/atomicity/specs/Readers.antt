@@ -7,14 +7,13 @@ use Rattle.interface.specs.Answers.{done, crashed, QueryAnswer, found, queryRefu
 use Rattle.sector.specs.Contents.{Bytes, Table}
 use Rattle.sector.specs.Sectors.{sector}
 use Rattle.volume.specs.Places.{IsClient, IsFile, IsPage}
-use Rattle.volume.specs.Views.{View}
 use Rattle.volume.specs.Volumes.{Volume, view}
 use Rattle.volume.specs.Format.{tableFor, format}
 use Rattle.rules.specs.Sessions.{isReading}
 use Rattle.rules.specs.Plans.{Call, begin, openFile, openRead, write, commit, abort, readPage}
 use Rattle.rules.specs.Content.{decidedContent}
-use Rattle.rules.specs.Calls.{After, call, query, queryPart}
-use Rattle.atomicity.specs.Model.{Model, shown}
+use Rattle.rules.specs.Calls.{call, query, queryPart}
+use Rattle.atomicity.specs.Model.{shown}
 use Rattle.atomicity.specs.Runs.{Step, calls, asks, Configuration, started, given, stepped, ranOver}
 use Rattle.atomicity.specs.NonVacuity.{calledAll, answersTo}
 

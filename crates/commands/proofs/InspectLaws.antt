@@ -1,22 +1,18 @@
 -- Lines that set the session or look at the volume, by the tests of their definitions.
-use mathlib.Core.Path.{◌≡◌, refl}
+use mathlib.Core.Path.{◌≡◌}
 use mathlib.Core.Bool.{true, false}
-use mathlib.Core.List.{[], ◌∷◌}
+use mathlib.Core.List.{[]}
 use Prim.Native.Nat.{ℕ, ◌/◌, ◌≤◌, ◌<◌}
-use native.Mathlib.Omega.{arith}
 use borrow.Author.Tests.{lt-ltb, le-ltb}
-use lib.Dec.{eqb}
-use lib.ListN.{length, get_or, set}
+use lib.ListN.{length, set}
 use Rattle.interface.specs.declared.Session.{Session}
-use Rattle.lists.specs.Lists.{between}
-use Rattle.lists.proofs.ListLaws.{and-left, and-right, between-true}
 use Rattle.rules.specs.Sessions.{withReading}
 use Rattle.sector.specs.Contents.{Bytes}
 use Rattle.sector.specs.Sectors.{sector}
 use Rattle.volume.specs.Volumes.{Volume}
 use Rattle.script.specs.Fields.{argument}
 use Rattle.commands.specs.Lines.{byteArgument}
-use Rattle.commands.specs.Inspect.{isRemark, isHold, readingAdded, Poked, poked, dumped}
+use Rattle.commands.specs.Inspect.{isHold, readingAdded, Poked, poked, dumped}
 
 -- k and f are the first two arguments.
 module _ (s : Session) (l : Bytes) (k f : ℕ) (e : k ≡ byteArgument 1 l) (g : f ≡ byteArgument 2 l) where

@@ -1,7 +1,7 @@
 -- Two clients read file 1 of V, M-102: each rule where it first matters, in one list of calls; and an open that is cut. A word of
 -- reading holds has 1 for file 1 and 2 for file 2.
 use Rattle.std.specs.Prelude.{Bool, ◌&&◌, List, [], ◌∷◌, ◌++◌}
-use Rattle.interface.specs.Answers.{done, crashed, refused}
+use Rattle.interface.specs.Answers.{done, crashed}
 use Rattle.rules.specs.Plans.{begin, openFile, openRead, write, commit, abort, readPage}
 use Rattle.atomicity.specs.Runs.{started}
 use Rattle.examples.specs.Scripts.{Fact, answers, finds, queryRefuses, sectorIs, decides, reading, played, small}

@@ -2,7 +2,7 @@
 -- starts, a turn and its end, by the first of the lines that are left.
 use mathlib.Core.Path.{◌≡◌, refl, ◌∙◌}
 use mathlib.Core.List.{[], ◌∷◌, ◌++◌}
-use Prim.Native.Nat.{ℕ, suc, ◌+◌, ◌-◌, ◌≤◌, ◌<◌}
+use Prim.Native.Nat.{ℕ, suc, ◌+◌, ◌-◌, ◌≤◌}
 use native.Mathlib.Numerals.{add-one}
 use native.Mathlib.Omega.{arith}
 use lib.ListN.{length, length-append}
@@ -73,4 +73,3 @@ module _ {line : ℕ → Bytes} {n : ℕ} {b c : Bytes} {start k at : ℕ} (now 
     room = omega (arith, one.next, next-room h);
     rest = λ w m x. now.rest w m (rw (lines-from line n k h) (wrote-more one x));
   }
-

@@ -1,13 +1,13 @@
 -- What a line asks for, row after row: what is left of the table decides.
-use mathlib.Core.Path.{◌≡◌, sym, ◌∙◌}
+use mathlib.Core.Path.{◌≡◌, ◌∙◌}
 use mathlib.Core.Bool.{true, false}
 use mathlib.Core.List.{List, ◌∷◌}
 use Prim.Native.Nat.{ℕ, ◌+◌, ◌≤◌}
-use lib.ListN.{length, drop, drop_of_length-le, get_or-eq_default}
+use lib.ListN.{length, drop, drop_of_length-le}
 use Rattle.sector.specs.Contents.{Bytes}
 use Rattle.script.specs.declared.Kind.{Kind}
 use Rattle.script.specs.declared.Row.{Row}
-use Rattle.script.specs.Kinds.{limits, limit, fits, kindIn}
+use Rattle.script.specs.Kinds.{fits, kindIn}
 
 module _ (xs : List Row) (l : Bytes) (k : Kind) (i : ℕ) (q : k ≡ kindIn (drop i xs) l) where
   module _ (x : Row) (next : drop i xs ≡ x ∷ drop (i + 1) xs) where

@@ -6,8 +6,8 @@ use Prim.Native.Nat.{ℕ, suc, ◌+◌, ◌*◌, ◌/◌, ◌%◌, ◌≤◌, �
 use native.Mathlib.Nat.{zero-add}
 use native.Mathlib.Omega.{arith}
 use borrow.Author.Tests.{le-ltb, lt-ltb}
-use lib.ListN.{length, take, drop, get_or, set, length-take, drop_of_length-le}
-use lib.Seq.{sets, sets-eq, length-sets}
+use lib.ListN.{length, drop, get_or, set, drop_of_length-le}
+use lib.Seq.{sets, sets-eq}
 use Rattle.sector.specs.Contents.{Bytes}
 use Rattle.lists.proofs.TestLaws.{drop-next}
 use Rattle.text.specs.Writes.{ToPrint}
@@ -42,4 +42,3 @@ unfolding inHex
 in-hex l o p h e =
     let fits : 0 + length (hexText l) ≤ length o = omega (arith, hex-length l) in
     rw (le-ltb _ _ h, e, sets-eq (hexText l) o 0 fits, zero-add (length (hexText l)), ← hex-length l)
-
