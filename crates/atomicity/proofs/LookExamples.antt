@@ -8,7 +8,7 @@ use lib.Dec.{eqb}
 use lib.ListN.{length, get_or, replicate}
 use Rattle.interface.specs.declared.Session.{Session}
 use Rattle.interface.specs.Answers.{done, crashed, refused, QueryAnswer, found, queryRefused}
-use Rattle.lists.specs.Lists.{if◌then◌else◌, all, first}
+use Rattle.lists.specs.Lists.{when◌then◌else◌, all, first}
 use Rattle.byteset.specs.Bits.{withBit, withoutBit}
 use Rattle.sector.specs.Contents.{Bytes, openRecord}
 use Rattle.sector.specs.Entries.{redone}
@@ -167,7 +167,7 @@ look-shows = (λ h. false≢true (ap (λ (d : Bytes). eqb (get_or d 0 1) 2) h.0)
 
 -- Sevens for page 0 of file 1, and zeros.
 abbrev sevens : ℕ → ℕ → Bytes
-sevens f p = page (if eqb f 1 && eqb p 0 then 7 else 0)
+sevens f p = page (when eqb f 1 && eqb p 0 then 7 else 0)
 
 -- Over the decided commit looks show that, after a crash too, and not zeros.
 shows-sevens : (crash : Bool) → let r = run (half 2) active12 newModel in

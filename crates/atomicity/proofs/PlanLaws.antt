@@ -10,7 +10,7 @@ use native.Mathlib.Omega.{arith}
 use borrow.Author.Tests.{eqb-true, eqb-false, eq-eqb, ne_eqb, not-false}
 use lib.Dec.{eqb}
 use Rattle.interface.specs.declared.Session.{Session}
-use Rattle.lists.specs.Lists.{if◌then◌else◌, every, member}
+use Rattle.lists.specs.Lists.{when◌then◌else◌, every, member}
 use Rattle.sector.specs.Contents.{Table, Header, idleRecord, openRecord}
 use Rattle.lists.proofs.ListLaws.{and-left, and-right, or-right, or-none, no-both}
 use Rattle.lists.proofs.CaseLaws.{by-equal, if-test, if-equal}
@@ -162,4 +162,4 @@ module _ {a : View} {s : Session} {k : ℕ} where
 -- After begin the record is open and has no entries.
 pub begin-opens : (a : View) (s : Session) (k : ℕ) → (changedBy a (beginPlan a s k)).records k ≡ openRecord
 unfolding beginPlan
-begin-opens a s k = last-record (if isOrphaned a s k then recovery (isDecided a k) a k else []) a k openRecord
+begin-opens a s k = last-record (when isOrphaned a s k then recovery (isDecided a k) a k else []) a k openRecord

@@ -13,7 +13,7 @@ use lib.Dec.{eqb, leb}
 use lib.ListN.{length}
 use Rattle.interface.specs.declared.Session.{Session}
 use Rattle.interface.specs.Answers.{done, crashed, refused}
-use Rattle.lists.specs.Lists.{if◌then◌else◌, first}
+use Rattle.lists.specs.Lists.{when◌then◌else◌, first}
 use Rattle.sector.specs.Contents.{Bytes, Table}
 use Rattle.sector.specs.Entries.{forPage}
 use Rattle.lists.proofs.ListLaws.{and-left}
@@ -81,7 +81,7 @@ reader-passes {v} {s} {k} {f} {p} h ok x c i =
 module _ (v : Volume) (s : Session) (m : Model) (h : Matches (view v) s m) (ok : Ready (view v) s)
     (k f p : ℕ) (x : Reader s k f) where
   abbrev m' : Model
-  m' = if noneActive s then emptied m else m
+  m' = when noneActive s then emptied m else m
 
   -- The page is as it was, and the reader has none pending.
   abbrev Kept : Model → Type 0
@@ -91,7 +91,7 @@ module _ (v : Volume) (s : Session) (m : Model) (h : Matches (view v) s m) (ok :
   start = if-test Kept (noneActive s) (emptied m) m (λ e. (refl, refl)) (λ e. (refl, reader-none ok x m h p))
 
   -- The pending pages of client j become these, which have none if j is the reader.
-  becomes : (j : ℕ) (l : Pending) → (k ≡ j → l f p ≡ none) → (if eqb k j then l else m'.pending k) f p ≡ none
+  becomes : (j : ℕ) (l : Pending) → (k ≡ j → l f p ≡ none) → (when eqb k j then l else m'.pending k) f p ≡ none
   becomes j l w = if-test (λ (y : Pending). y f p ≡ none) (eqb k j) l (m'.pending k) (λ e. w (eqb-true k j e)) (λ e. start.1)
 
   -- The reader writes other files.

@@ -13,7 +13,7 @@ use lib.Dec.{eqb}
 use lib.ListN.{length, take}
 use Rattle.interface.specs.declared.Session.{Session}
 use Rattle.interface.specs.Answers.{newSession, done, crashed}
-use Rattle.lists.specs.Lists.{if◌then◌else◌}
+use Rattle.lists.specs.Lists.{when◌then◌else◌}
 use Rattle.sector.specs.Contents.{Bytes, Entry, Record}
 use Rattle.lists.proofs.ListLaws.{no-both}
 use Rattle.lists.proofs.CaseLaws.{by-equal, if-test}
@@ -55,7 +55,7 @@ pub record Faithful (a : View) (s : Session) (m : Model) : Type 0 where
   pub tracked : (k : ℕ) → 1 ≤ k → k ≤ 4 → Tracked a s m k
   pub marks : length s.active ≡ 4
 
-pub faithful : (a : View) (s : Session) (m : Model) → Matches a s m → Faithful a s (if noneActive s then emptied m else m)
+pub faithful : (a : View) (s : Session) (m : Model) → Matches a s m → Faithful a s (when noneActive s then emptied m else m)
 faithful a s m h = if-test (Faithful a s) (noneActive s) (emptied m) m
     (λ e. record {
       pages = h.pages;
@@ -151,7 +151,7 @@ module _ (a : View) (s : Session) (m : Model) (h : Faithful a s m) where
 
   module _ (k : ℕ) (w : MayAct a s k) where
     -- Commit and abort unmark k and end its reading holds, and leave none of its pages pending.
-    ended : (b : View) (m' : Model) → ((j : ℕ) → m'.pending j ≡ (if eqb j k then noPending else m.pending j))
+    ended : (b : View) (m' : Model) → ((j : ℕ) → m'.pending j ≡ (when eqb j k then noPending else m.pending j))
         → ((j : ℕ) → Others s k j → pendingIn b j ≡ pendingIn a j) → PagesMatch b m' → Matches b (withoutReader (setActive s k false) k) m'
     ended b m' pending others pages = own-matches h others (λ j lo n. set-other s k j false w.active.low lo n)
         (λ j n. pending j ∙ rw (ne_eqb j k n))

@@ -10,7 +10,7 @@ use borrow.Author.Tests.{eqb-true}
 use lib.ListN.{length, get_or, take}
 use Rattle.interface.specs.declared.Session.{Session}
 use Rattle.interface.specs.Answers.{refused}
-use Rattle.lists.specs.Lists.{if◌then◌else◌}
+use Rattle.lists.specs.Lists.{when◌then◌else◌}
 use Rattle.sector.specs.Contents.{Entry}
 use Rattle.sector.specs.Sectors.{sector}
 use Rattle.lists.proofs.ListLaws.{no-both}
@@ -64,7 +64,7 @@ pub call-matches : (v : Volume) (s : Session) (m : Model) → Matches (view v) s
     → let x = call v s c budget in Matches (view x.volume) x.session (modelCall m s c x.answer)
 unfolding modelCall
 call-matches v s m h c budget =
-    let m' : Model = if noneActive s then emptied m else m in
+    let m' : Model = when noneActive s then emptied m else m in
     let clear : Faithful (view v) s m' = faithful (view v) s m h in
     let out : Passed v s c → Outcome (view v) s m' c = λ ok. outcome (view v) s m' clear c ok.allowed in
     call-case (λ (x : After). Matches (view x.volume) x.session (modelCall m s c x.answer)) v s c budget

@@ -3,7 +3,7 @@ use Rattle.std.specs.Prelude.{Bool, true, false, ◌&&◌, ℕ, eqb, leb, replic
 use Rattle.std.proofs.Math.Option.{Option, none, some, get_or}
 use Rattle.interface.specs.declared.Session.{Session}
 use Rattle.interface.specs.Answers.{Answer, done, crashed, refused}
-use Rattle.lists.specs.Lists.{if◌then◌else◌}
+use Rattle.lists.specs.Lists.{when◌then◌else◌}
 use Rattle.sector.specs.Contents.{Bytes}
 use Rattle.rules.specs.Sessions.{noneActive}
 use Rattle.rules.specs.Plans.{Call, begin, openFile, openRead, write, commit, abort, Query, readPage, lookPage}
@@ -40,11 +40,11 @@ emptied m = record { pages = m.pages; pending = λ j. noPending }
 
 -- Client k's pending pages become these.
 abbrev pub withPending : Model → ℕ → Pending → Model
-withPending m k l = record { pages = m.pages; pending = λ j. if eqb j k then l else m.pending j }
+withPending m k l = record { pages = m.pages; pending = λ j. when eqb j k then l else m.pending j }
 
 -- "the page goes on k's slip, in place of an earlier one for the same (file, page)"
 abbrev pub withPage : ℕ → ℕ → Bytes → Pending → Pending
-withPage f p d l = λ g q. if eqb g f && eqb q p then some d else l g q
+withPage f p d l = λ g q. when eqb g f && eqb q p then some d else l g q
 
 -- "the pages on k's slip replace the book's. Then k's slip is emptied."
 abbrev pub committed : Model → ℕ → Model
@@ -67,9 +67,9 @@ abbrev pub effect : Model → Call → Answer → Model
 effect m (begin k) x = m
 effect m (openFile k f) x = m
 effect m (openRead k f) x = m
-effect m (write k f p d) x = if isDone x then withPending m k (withPage f p d (m.pending k)) else m
-effect m (commit k) x = if isDeciding x then committed m k else m
-effect m (abort k) x = if isDone x then withPending m k noPending else m
+effect m (write k f p d) x = when isDone x then withPending m k (withPage f p d (m.pending k)) else m
+effect m (commit k) x = when isDeciding x then committed m k else m
+effect m (abort k) x = when isDone x then withPending m k noPending else m
 
 -- "Any call cut: after the above, every slip is emptied."
 abbrev pub settled : Answer → Model → Model
@@ -79,4 +79,4 @@ settled (refused n) m = m
 
 -- "Any other call, refused or not, whose given session has no mark first empties every slip." A reading hold is no mark.
 unfoldable pub modelCall : Model → Session → Call → Answer → Model
-modelCall m s c x = settled x (effect (if noneActive s then emptied m else m) c x)
+modelCall m s c x = settled x (effect (when noneActive s then emptied m else m) c x)

@@ -3,7 +3,7 @@ use Rattle.std.specs.Prelude.{Bool, ℕ}
 use Rattle.interface.specs.declared.Session.{Session}
 use Rattle.interface.specs.declared.Reply.{Reply}
 use Rattle.interface.specs.Answers.{newSession, done, crashed, answerOf}
-use Rattle.lists.specs.Lists.{if◌then◌else◌}
+use Rattle.lists.specs.Lists.{when◌then◌else◌}
 use Rattle.volume.specs.Volumes.{Volume}
 use Rattle.rules.specs.Calls.{After}
 
@@ -14,6 +14,6 @@ replied r w = record { answer = answerOf r.outcome; session = r.session; volume 
 -- A call that made so many stores, and crashed or didn't; the session is the one that it hands back if it is done.
 abbrev pub endedBy : (made : ℕ) → (isCrashed : Bool) → Session → Volume → After
 endedBy made isCrashed s w =
-    if isCrashed
+    when isCrashed
     then record { answer = crashed made; session = newSession; volume = w }
     else record { answer = done made; session = s; volume = w }

@@ -3,7 +3,7 @@
 use Rattle.std.specs.Prelude.{Bool, true, false, ℕ, ltb}
 use Rattle.interface.specs.declared.Session.{Session}
 use Rattle.interface.specs.Answers.{sessionOf, marksByte, Answer, done, crashed, refused, QueryAnswer, found, queryRefused, CountAnswer, counted, countRefused, FormatAnswer, formatDone, formatRefused}
-use Rattle.lists.specs.Lists.{if◌then◌else◌}
+use Rattle.lists.specs.Lists.{when◌then◌else◌}
 use Rattle.volume.specs.Volumes.{Volume}
 use Rattle.volume.specs.Sound.{sound}
 use Rattle.rules.specs.Plans.{Call, Query}
@@ -50,7 +50,7 @@ passedFormat (formatRefused n) = record { kind = 2; number = n }
 
 -- A session with other bits fits no volume: refusal 2, or 1 if the volume isn't sound, since that is tested first.
 abbrev pub otherBitsRefused : Volume → VolAnswer
-otherBitsRefused v = record { kind = 2; number = if sound v then 2 else 1 }
+otherBitsRefused v = record { kind = 2; number = when sound v then 2 else 1 }
 
 -- ------------------------------------------------------------------ replies
 -- An answer with a session.
@@ -69,12 +69,12 @@ passedAfter a = record { reply = replyWith (passedSession a.session) (passedAnsw
 -- A call given a session by C. One with other bits comes back as it was given, and every byte of the volume is kept.
 unfoldable pub calledBy : Volume → VolSession → Call → (budget : ℕ) → Passed
 calledBy v c x budget =
-    if hasOtherBits c then record { reply = replyWith c (otherBitsRefused v); volume = v }
+    when hasOtherBits c then record { reply = replyWith c (otherBitsRefused v); volume = v }
     else passedAfter (call v (sessionFrom c) x budget)
 
 -- A question given a session by C.
 unfoldable pub askedBy : Volume → VolSession → Query → VolAnswer
-askedBy v c q = if hasOtherBits c then otherBitsRefused v else passedQuery (query v (sessionFrom c) q)
+askedBy v c q = when hasOtherBits c then otherBitsRefused v else passedQuery (query v (sessionFrom c) q)
 
 -- ------------------------------------------------------------------ numbers alone
 -- 1 for true, 0 for false.

@@ -2,7 +2,7 @@
 use Rattle.std.specs.Prelude.{◌≡◌, Bool, true, false}
 use Rattle.interface.specs.declared.Session.{Session}
 use Rattle.interface.specs.Answers.{answerOf, queryAnswerOf}
-use Rattle.lists.specs.Lists.{if◌then◌else◌}
+use Rattle.lists.specs.Lists.{when◌then◌else◌}
 use Rattle.sector.specs.Contents.{Bytes}
 use Rattle.volume.specs.Volumes.{Volume}
 use Rattle.rules.specs.Plans.{begin, openFile, openRead, write, commit, abort, Query, readPage, lookPage}
@@ -27,7 +27,7 @@ isLook Action.Look = true
 
 -- What a command asks, if it is a question: a look, or else a read.
 abbrev pub queryOf : Command → Query
-queryOf c = if isLook c.action then lookPage c.file c.page else readPage c.client c.file c.page
+queryOf c = when isLook c.action then lookPage c.file c.page else readPage c.client c.file c.page
 
 -- The step of a command that is this call.
 abbrev pub stepBy : Action → Command → Bytes → Step

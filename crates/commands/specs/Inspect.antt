@@ -2,7 +2,7 @@
 use Rattle.std.specs.Prelude.{Bool, true, false, ◌&&◌, [], ◌∷◌, ℕ, ◌/◌, eqb, ltb, length, set}
 use Rattle.interface.specs.declared.Session.{Session}
 use Rattle.interface.specs.Answers.{noneReading, sessionOf, CountAnswer}
-use Rattle.lists.specs.Lists.{if◌then◌else◌, between}
+use Rattle.lists.specs.Lists.{when◌then◌else◌, between}
 use Rattle.sector.specs.Contents.{Bytes}
 use Rattle.sector.specs.Sectors.{sector}
 use Rattle.volume.specs.Volumes.{Volume}
@@ -28,7 +28,7 @@ isHold k f = between 1 k 4 && between 1 f 16
 -- `reading K F`: "the session gets that reading hold", if there is room for it.
 unfoldable pub readingAdded : Session → Bytes → Added
 readingAdded s l =
-    if isHold (byteArgument 1 l) (byteArgument 2 l)
+    when isHold (byteArgument 1 l) (byteArgument 2 l)
     then record { is_understood = true; session = withReading s (byteArgument 1 l) (byteArgument 2 l) }
     else record { is_understood = false; session = s }
 
@@ -48,9 +48,9 @@ pub record Poked : Type 0 where
 -- `poke ADDRESS BYTE`: "one byte of the volume"
 unfoldable pub poked : Volume → Bytes → Poked
 poked v l =
-    if ltb (argument 1 l) (length v) then record { isInside = true; volume = set v (argument 1 l) (byteArgument 2 l) }
+    when ltb (argument 1 l) (length v) then record { isInside = true; volume = set v (argument 1 l) (byteArgument 2 l) }
     else record { isInside = false; volume = v }
 
 -- `dump S`: sector S; nothing if it isn't in the volume.
 unfoldable pub dumped : Volume → Bytes → Bytes
-dumped v l = if ltb (argument 1 l) (length v / 256) then sector v (argument 1 l) else []
+dumped v l = when ltb (argument 1 l) (length v / 256) then sector v (argument 1 l) else []

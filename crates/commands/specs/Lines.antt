@@ -1,6 +1,6 @@
 -- The lines that are calls, by their arguments: the command, and so the step, that each stands for.
 use Rattle.std.specs.Prelude.{false, [], ◌∷◌, ◌++◌, ℕ, zero, suc, ◌+◌, ◌-◌, ◌%◌, min, ltb}
-use Rattle.lists.specs.Lists.{if◌then◌else◌}
+use Rattle.lists.specs.Lists.{when◌then◌else◌}
 use Rattle.sector.specs.Contents.{Bytes}
 use Rattle.script.specs.Fields.{arguments, argument}
 use Rattle.atomicity.specs.Runs.{Step}
@@ -14,7 +14,7 @@ byteArgument i l = min (argument i l) 255
 
 -- "a BUDGET left out is 255"
 abbrev pub budgetArgument : ℕ → Bytes → ℕ
-budgetArgument i l = if ltb (arguments l) i then 255 else byteArgument i l
+budgetArgument i l = when ltb (arguments l) i then 255 else byteArgument i l
 
 -- The length of a write's data: "at most 512".
 abbrev pub dataLength : Bytes → ℕ
@@ -35,7 +35,7 @@ lineData l = ramp (byteArgument 4 l) (dataLength l)
 
 -- Which argument is the file: the one behind the client. A look has no client.
 abbrev pub filePlace : Action → ℕ
-filePlace a = if isLook a then 1 else 2
+filePlace a = when isLook a then 1 else 2
 
 -- Which argument is the BUDGET: the last one. A read and a look have none, and what their budget is says nothing.
 abbrev pub budgetPlace : Action → ℕ

@@ -1,5 +1,5 @@
-// Standard input and output of the programs. What is read and written is the system's affair; that a count is within the buffer is
-// proved.
+// Standard input and output of the programs. No contract can say what the system reads and writes; that a count is within the
+// buffer is proved.
 #![tactic(auto)]
 
 ghost use Rattle.std.specs.Prelude.{◌≤◌, length, IfOk};
@@ -7,7 +7,8 @@ ghost use Rattle.std.specs.Prelude.{◌≤◌, length, IfOk};
 use std::io;
 use std::io::{Read, Write};
 
-// Reads until the buffer is full or the input ends, and answers how many bytes of the buffer were read.
+// Reads until the buffer is full or the input ends, and answers how many bytes of the buffer were read. Ruled out: a count past the
+// buffer (`must-fail/one_more_than_read`).
 pub fn read_full(rt: &impl Input, buf: &mut [u8]) -> io::Result<usize>
     ensures { IfOk result (λ n. n ≤ length buf.new) }
 {

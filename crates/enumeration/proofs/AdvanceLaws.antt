@@ -11,7 +11,7 @@ use borrow.Author.Tests.{ltb-true, eq-eqb, ne_eqb, lt-ltb, le-ltb}
 use lib.Dec.{eqb, ltb}
 use lib.ListN.{length, get_or, drop, drop_of_length-le}
 use lib.Seq.{drop-cons}
-use Rattle.lists.specs.Lists.{if◌then◌else◌}
+use Rattle.lists.specs.Lists.{when◌then◌else◌}
 use Rattle.lists.proofs.CaseLaws.{if-test}
 use Rattle.volume.specs.Volumes.{Volume}
 use Rattle.volume.specs.Sound.{sound}
@@ -40,7 +40,7 @@ unfolding firstSound
 number-low [] n = omega arith
 number-low (c ∷ cs) n = go (sound c) (number-low cs (suc n))
   where
-    go : (b : Bool) → suc n ≤ firstSound (suc n) cs → n ≤ (if b then n else firstSound (suc n) cs)
+    go : (b : Bool) → suc n ≤ firstSound (suc n) cs → n ≤ (when b then n else firstSound (suc n) cs)
     go true h = omega arith
     go false h = omega arith
 

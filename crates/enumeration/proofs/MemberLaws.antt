@@ -8,7 +8,7 @@ use Prim.Native.Nat.{ℕ, zero, suc, ◌+◌, ◌≤◌, ◌<◌}
 use native.Mathlib.Nat.{not-suc-le-zero, le_of_suc-le-suc}
 use native.Mathlib.Omega.{arith}
 use lib.ListN.{length, get_or}
-use Rattle.lists.specs.Lists.{if◌then◌else◌, every, filter, from}
+use Rattle.lists.specs.Lists.{when◌then◌else◌, every, filter, from}
 use Rattle.lists.proofs.ListLaws.{and-left, and-right}
 use Rattle.lists.proofs.CaseLaws.{by-equal}
 use Rattle.enumeration.specs.Lists.{In, listsOf}
@@ -26,7 +26,7 @@ module _ {A : Type 0} where
   in-filter t {x} {xs = y ∷ ys} e (Memᴰ.head q) = let h : t y ≡ true = rw (← q) e in rw h (Memᴰ.head q)
   in-filter t {x} {xs = y ∷ ys} e (Memᴰ.tail p) = go (t y) (in-filter t e p)
     where
-      go : (b : Bool) → In x (filter t ys) → In x (if b then y ∷ filter t ys else filter t ys)
+      go : (b : Bool) → In x (filter t ys) → In x (when b then y ∷ filter t ys else filter t ys)
       go true p = Memᴰ.tail p
       go false p = p
 
@@ -63,7 +63,7 @@ module _ {A : Type 0} where
   filter-has t [] p = elim p [ ]
   filter-has t {x} (y ∷ ys) p = go (t y) refl (filter-has t ys) p
     where
-      go : (b : Bool) → t y ≡ b → (In x (filter t ys) → (t x ≡ true) × In x ys) → In x (if b then y ∷ filter t ys else filter t ys)
+      go : (b : Bool) → t y ≡ b → (In x (filter t ys) → (t x ≡ true) × In x ys) → In x (when b then y ∷ filter t ys else filter t ys)
           → (t x ≡ true) × In x (y ∷ ys)
       go true e ih (Memᴰ.head q) = (rw q e, Memᴰ.head q)
       go true e ih (Memᴰ.tail p) = ((ih p).0, Memᴰ.tail (ih p).1)

@@ -10,7 +10,7 @@ use native.Mathlib.Nat.{not-suc-le-zero, le_of_suc-le-suc, mul-suc}
 use native.Mathlib.Omega.{arith}
 use lib.ListN.{length, get_or, length-map, get_or-append}
 use lib.Seq.{get_or-append-add}
-use Rattle.lists.specs.Lists.{if◌then◌else◌, filter}
+use Rattle.lists.specs.Lists.{when◌then◌else◌, filter}
 use Rattle.enumeration.specs.Lists.{In}
 
 -- Element i of a list that a function was applied to.
@@ -57,14 +57,14 @@ module _ {A B C : Type 0} (f : A → B → C) (ys : List B) where
   -- ------------------------------------------------------------------ what a test leaves
   module _ (t : C → Bool) (p : A → Bool) (q : A → B → Bool) where
     row-filter : (x : A) (zs : List B) → ((y : B) → In y zs → t (f x y) ≡ (p x && q x y)) → (b : Bool) → p x ≡ b
-        → filter t (map (f x) zs) ≡ (if b then map (f x) (filter (q x) zs) else [])
+        → filter t (map (f x) zs) ≡ (when b then map (f x) (filter (q x) zs) else [])
     row-filter x [] h true e = refl
     row-filter x [] h false e = refl
     row-filter x (y ∷ zs) h b e = rw (h y (Memᴰ.head refl), e) (go b (q x y) (row-filter x zs (λ w m. h w (Memᴰ.tail m)) b e))
       where
-        go : (b c : Bool) → filter t (map (f x) zs) ≡ (if b then map (f x) (filter (q x) zs) else [])
-            → (if b && c then f x y ∷ filter t (map (f x) zs) else filter t (map (f x) zs))
-            ≡ (if b then map (f x) (if c then y ∷ filter (q x) zs else filter (q x) zs) else [])
+        go : (b c : Bool) → filter t (map (f x) zs) ≡ (when b then map (f x) (filter (q x) zs) else [])
+            → (when b && c then f x y ∷ filter t (map (f x) zs) else filter t (map (f x) zs))
+            ≡ (when b then map (f x) (when c then y ∷ filter (q x) zs else filter (q x) zs) else [])
         go true true e = rw e
         go true false e = e
         go false c e = e
@@ -74,7 +74,7 @@ module _ {A B C : Type 0} (f : A → B → C) (ys : List B) where
     filter-append (x ∷ a) b = go (t x) (filter-append a b)
       where
         go : (c : Bool) → filter t (a ++ b) ≡ filter t a ++ filter t b
-            → (if c then x ∷ filter t (a ++ b) else filter t (a ++ b)) ≡ (if c then x ∷ filter t a else filter t a) ++ filter t b
+            → (when c then x ∷ filter t (a ++ b) else filter t (a ++ b)) ≡ (when c then x ∷ filter t a else filter t a) ++ filter t b
         go true e = rw e
         go false e = e
 
@@ -91,7 +91,7 @@ module _ {A B C : Type 0} (f : A → B → C) (ys : List B) where
         more : List C
         more = flat_map (λ x. map (f x) (filter (q x) ys)) (filter p xs)
 
-        go : (b : Bool) → filter t (map (f x) ys) ≡ (if b then map (f x) (filter (q x) ys) else [])
-            → filter t (map (f x) ys) ++ more ≡ flat_map (λ x. map (f x) (filter (q x) ys)) (if b then x ∷ filter p xs else filter p xs)
+        go : (b : Bool) → filter t (map (f x) ys) ≡ (when b then map (f x) (filter (q x) ys) else [])
+            → filter t (map (f x) ys) ++ more ≡ flat_map (λ x. map (f x) (filter (q x) ys)) (when b then x ∷ filter p xs else filter p xs)
         go true e = rw e
         go false e = rw e

@@ -9,7 +9,7 @@ use borrow.Author.Tests.{ltb-true, lt-ltb, le-ltb}
 use lib.Dec.{ltb}
 use lib.ListN.{length, get_or, take, drop, length-drop}
 use lib.Seq.{drop-cons, get_or-drop}
-use Rattle.lists.specs.Lists.{if◌then◌else◌, filter}
+use Rattle.lists.specs.Lists.{when◌then◌else◌, filter}
 use Rattle.lists.proofs.CaseLaws.{by-test}
 use Rattle.volume.specs.Volumes.{Volume}
 use Rattle.volume.specs.Sound.{sound}
@@ -23,7 +23,7 @@ use Rattle.enumeration.proofs.AdvanceLaws.{advance-fits}
 -- ------------------------------------------------------------------ what is left
 -- By the number that is found.
 leftAt : ℕ → List Volume
-leftAt i = if ltb i (length candidates) then get_or candidates i [] ∷ filter sound (drop (suc i) candidates) else []
+leftAt i = when ltb i (length candidates) then get_or candidates i [] ∷ filter sound (drop (suc i) candidates) else []
 
 left-found : (cs : List Volume) (n : ℕ) → drop n candidates ≡ cs → filter sound cs ≡ leftAt (firstSound n cs)
 unfolding firstSound leftAt

@@ -1,6 +1,6 @@
 -- An array is advanced to the next small volume; and a walk through all of them.
 use Rattle.std.specs.Prelude.{◌≡◌, List, [], ◌∷◌, ℕ, zero, suc, ◌*◌, eqb, ltb, length, get_or, take, drop}
-use Rattle.lists.specs.Lists.{if◌then◌else◌, filter}
+use Rattle.lists.specs.Lists.{when◌then◌else◌, filter}
 use Rattle.volume.specs.Volumes.{Volume}
 use Rattle.volume.specs.Sound.{sound}
 use Rattle.enumeration.specs.declared.AdvanceOutcome.{AdvanceOutcome}
@@ -15,18 +15,18 @@ pub record Advanced : Type 0 where
 -- The number of the first sound one of these volumes, if the first has number n; if none is sound, n and their number together.
 unfoldable pub firstSound : ℕ → List Volume → ℕ
 firstSound n [] = n
-firstSound n (c ∷ cs) = if sound c then n else firstSound (suc n) cs
+firstSound n (c ∷ cs) = when sound c then n else firstSound (suc n) cs
 
 -- The array becomes candidate i, and the next advance is to begin behind it; if there is no candidate i, nothing changes.
 abbrev pub advanceTo : Volume → (i : ℕ) → Advanced
 advanceTo v i =
-    if ltb i (length candidates) then record { answer = AdvanceOutcome.To (suc i); volume = get_or candidates i [] }
+    when ltb i (length candidates) then record { answer = AdvanceOutcome.To (suc i); volume = get_or candidates i [] }
     else record { answer = AdvanceOutcome.End; volume = v }
 
 -- From number n on: the array becomes the first candidate that is sound. An array of another length stays as it is.
 unfoldable pub advance : Volume → (n : ℕ) → Advanced
 advance v n =
-    if eqb (length v) (256 * smallTable.sectors) then advanceTo v (firstSound n (drop n candidates))
+    when eqb (length v) (256 * smallTable.sectors) then advanceTo v (firstSound n (drop n candidates))
     else record { answer = AdvanceOutcome.BadLength; volume = v }
 
 -- The volume that an advance put into the array, and then those of the advances after it.
@@ -48,7 +48,7 @@ passed n = length (filter sound (take n candidates))
 -- From any number on: the array becomes the small volume behind those passed, if there is one, and else stays as it is.
 abbrev pub PutsNext : Type 0
 PutsNext = (v : Volume) (n : ℕ) → length v ≡ 256 * smallTable.sectors → advance v n
-    ≡ (if ltb (passed n) (length smallVolumes) then record {
+    ≡ (when ltb (passed n) (length smallVolumes) then record {
       answer = AdvanceOutcome.To (suc (firstSound n (drop n candidates)));
       volume = get_or smallVolumes (passed n) [];
     } else record { answer = AdvanceOutcome.End; volume = v })

@@ -6,7 +6,7 @@ use native.Mathlib.Omega.{arith}
 use borrow.Author.Tests.{eqb-true, leb-true}
 use lib.Dec.{eqb}
 use lib.ListN.{length}
-use Rattle.lists.specs.Lists.{if◌then◌else◌, first}
+use Rattle.lists.specs.Lists.{when◌then◌else◌, first}
 use Rattle.sector.specs.Layout.{sectorLimit, fileLimit}
 use Rattle.sector.specs.Contents.{Bytes}
 use Rattle.volume.specs.Volumes.{Volume}
@@ -16,7 +16,7 @@ use Rattle.volume.proofs.PlaceLaws.{end-low}
 use Rattle.format.specs.Requests.{Fits}
 
 pub format-is : (v : Volume) (T : ℕ) (l : Bytes) → format v T l ≡ formatBy
-    (if not (lengthFits (length v)) then 13 else if not (shapeFits T l) then 14 else if not (endFits (length v) T l) then 15 else 0)
+    (when not (lengthFits (length v)) then 13 else when not (shapeFits T l) then 14 else when not (endFits (length v) T l) then 15 else 0)
     v (tableFor (length v) T l)
 unfolding format formatTests first
 format-is v T l = refl

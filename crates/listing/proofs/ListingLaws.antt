@@ -8,7 +8,7 @@ use native.Mathlib.Omega.{arith}
 use borrow.Author.Tests.{le-ltb}
 use lib.Dec.{eqb}
 use lib.ListN.{length, length-append}
-use Rattle.lists.specs.Lists.{if◌then◌else◌, from}
+use Rattle.lists.specs.Lists.{when◌then◌else◌, from}
 use Rattle.sector.specs.Contents.{Bytes}
 use Rattle.volume.specs.Places.{IsFile, fileAt}
 use Rattle.volume.specs.Volumes.{Volume, view}
@@ -26,7 +26,7 @@ use Rattle.listing.proofs.LinesLaws.{client-length, file-length}
 word-length : (s : ℕ) → length (stateWord s) ≤ 7
 word-length s = go (eqb s 0) (eqb s 1)
   where
-    go : (a b : Bool) → length {A = ℕ} (if a then 0x69 ∷ 0x64 ∷ 0x6C ∷ 0x65 ∷ [] else if b then 0x6F ∷ 0x70 ∷ 0x65 ∷ 0x6E ∷ []
+    go : (a b : Bool) → length {A = ℕ} (when a then 0x69 ∷ 0x64 ∷ 0x6C ∷ 0x65 ∷ [] else when b then 0x6F ∷ 0x70 ∷ 0x65 ∷ 0x6E ∷ []
         else 0x64 ∷ 0x65 ∷ 0x63 ∷ 0x69 ∷ 0x64 ∷ 0x65 ∷ 0x64 ∷ []) ≤ 7
     go true b = omega arith
     go false true = omega arith

@@ -1,6 +1,6 @@
 -- What a listing answers, and the bytes it is given afterwards.
 use Rattle.std.specs.Prelude.{ltb, length}
-use Rattle.lists.specs.Lists.{if◌then◌else◌}
+use Rattle.lists.specs.Lists.{when◌then◌else◌}
 use Rattle.sector.specs.Contents.{Bytes}
 use Rattle.volume.specs.Volumes.{Volume, view}
 use Rattle.volume.specs.Sound.{sound}
@@ -20,10 +20,10 @@ withText text out = record { outcome = ListOutcome.Listed (length text); out = a
 -- The text of a sound volume is written; without room for the longest one, or if the volume isn't sound, nothing is.
 unfoldable pub listed : Volume → Bytes → Listed
 listed v out =
-    if ltb (length out) 664 then record { outcome = ListOutcome.NoRoom; out = out }
-    else if sound v then withText (listing (view v)) out
+    when ltb (length out) 664 then record { outcome = ListOutcome.NoRoom; out = out }
+    else when sound v then withText (listing (view v)) out
     else record { outcome = ListOutcome.NotSound; out = out }
 
 -- The text of the listing program stands at the front; without room for the longest one, nothing is written.
 unfoldable pub toPrint : Volume → Bytes → ToPrint
-toPrint v out = if ltb (length out) 664 then nothingFirst out else textFirst (printed v) out
+toPrint v out = when ltb (length out) 664 then nothingFirst out else textFirst (printed v) out

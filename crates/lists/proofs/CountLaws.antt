@@ -10,7 +10,7 @@ use native.Mathlib.Omega.{arith}
 use borrow.Author.Tests.{eq-eqb, ne_eqb, ltb-true, not-true}
 use lib.Dec.{eqb, ltb}
 use lib.ListN.{length}
-use Rattle.lists.specs.Lists.{if◌then◌else◌, every, any, filter, distinct, member, from}
+use Rattle.lists.specs.Lists.{when◌then◌else◌, every, any, filter, distinct, member, from}
 use Rattle.lists.proofs.ListLaws.{and-left, and-right}
 use Rattle.lists.proofs.CaseLaws.{by-equal}
 use Rattle.lists.proofs.SearchLaws.{from-length, filter-none}
@@ -21,7 +21,7 @@ count t l = length (filter t l)
 
 -- One element more, which passes as another one does.
 one-more : (x : ℕ) (l m : List ℕ) (n : ℕ) → length l ≡ n + length m → (b : Bool)
-    → length (if b then x ∷ l else l) ≡ n + length (if b then x ∷ m else m)
+    → length (when b then x ∷ l else l) ≡ n + length (when b then x ∷ m else m)
 one-more x l m n e true = omega (arith, e)
 one-more x l m n e false = e
 
@@ -31,7 +31,7 @@ count-both t [] = refl
 count-both t (x ∷ l) = go (t x) (count-both t l)
   where
     go : (b : Bool) → count t l + count (λ r. not (t r)) l ≡ length l
-        → length (if b then x ∷ filter t l else filter t l) + length (if not b then x ∷ filter (λ r. not (t r)) l else filter (λ r. not (t r)) l) ≡ suc (length l)
+        → length (when b then x ∷ filter t l else filter t l) + length (when not b then x ∷ filter (λ r. not (t r)) l else filter (λ r. not (t r)) l) ≡ suc (length l)
     go true h = omega (arith, h)
     go false h = omega (arith, h)
 

@@ -12,7 +12,7 @@ use borrow.Author.Tests.{leb-true, le-leb, eqb-true, eqb-false, eq-eqb}
 use lib.Dec.{eqb, leb}
 use lib.ListN.{length, get_or, set, take, drop, replicate, length-drop}
 use lib.Seq.{sets, take-append-le, drop-append-le, drop-append-add}
-use Rattle.lists.specs.Lists.{if◌then◌else◌, between, all, every, filter, find, member, same, from}
+use Rattle.lists.specs.Lists.{when◌then◌else◌, between, all, every, filter, find, member, same, from}
 
 -- ------------------------------------------------------------------ two tests
 pub and-left : (a b : Bool) → (a && b) ≡ true → a ≡ true
@@ -99,7 +99,7 @@ pub every-filter : {A : Type 0} (t : A → Bool) (xs : List A) → every t (filt
 every-filter t [] = refl
 every-filter t (x ∷ xs) = go (every-filter t xs) (t x) refl
   where
-    go : every t (filter t xs) ≡ true → (b : Bool) → t x ≡ b → every t (if b then x ∷ filter t xs else filter t xs) ≡ true
+    go : every t (filter t xs) ≡ true → (b : Bool) → t x ≡ b → every t (when b then x ∷ filter t xs else filter t xs) ≡ true
     go ih true e = and-both (t x) _ e ih
     go ih false e = ih
 
@@ -108,7 +108,7 @@ pub every-sub : {A : Type 0} (t q : A → Bool) (xs : List A) → every q xs ≡
 every-sub t q [] e = refl
 every-sub t q (x ∷ xs) e = go (every-sub t q xs (and-right (q x) _ e)) (t x)
   where
-    go : every q (filter t xs) ≡ true → (b : Bool) → every q (if b then x ∷ filter t xs else filter t xs) ≡ true
+    go : every q (filter t xs) ≡ true → (b : Bool) → every q (when b then x ∷ filter t xs else filter t xs) ≡ true
     go ih true = and-both (q x) _ (and-left (q x) _ e) ih
     go ih false = ih
 
@@ -118,7 +118,7 @@ member-filter t i [] e n = absurd (false≢true e)
 member-filter t i (x ∷ xs) e n = go (member-filter t i xs) (eqb i x) refl (t x) refl e n
   where
     go : (member i xs ≡ true → member i (filter t xs) ≡ false → t i ≡ false) → (b : Bool) → eqb i x ≡ b → (c : Bool) → t x ≡ c
-        → (b || member i xs) ≡ true → member i (if c then x ∷ filter t xs else filter t xs) ≡ false → t i ≡ false
+        → (b || member i xs) ≡ true → member i (when c then x ∷ filter t xs else filter t xs) ≡ false → t i ≡ false
     go ih true q true r e n = no-both (eqb i x) q (or-none (eqb i x) _ n).0
     go ih true q false r e n = rw (eqb-true i x q) r
     go ih false q false r e n = ih e n
@@ -130,7 +130,7 @@ pub find-has : {A : Type 0} (t q : A → Bool) (xs : List A) (x : A) → find t 
 find-has t q [] x e a = let z : ◌≡◌ {A = ℕ} 0 1 = cc in absurd (not-suc-le-zero {n = 0} (omega arith))
 find-has t q (y ∷ ys) x e a = go (λ p. find-has t q ys x p (and-right (q y) _ a)) (t y) refl e
   where
-    go : (find t ys ≡ some x → (t x ≡ true) × (q x ≡ true)) → (b : Bool) → t y ≡ b → (if b then some y else find t ys) ≡ some x
+    go : (find t ys ≡ some x → (t x ≡ true) × (q x ≡ true)) → (b : Bool) → t y ≡ b → (when b then some y else find t ys) ≡ some x
         → (t x ≡ true) × (q x ≡ true)
     go ih true p e = let yx : y ≡ x = cc in (rw (← yx) p, rw (← yx) (and-left (q y) _ a))
     go ih false p e = ih e

@@ -12,7 +12,7 @@ use native.Mathlib.Omega.{arith}
 use borrow.Author.Tests.{leb-true, eqb-false, eq-eqb, ne_eqb, not-true}
 use lib.Dec.{eqb, leb}
 use lib.ListN.{length, get_or, set, drop, drop_of_length-le, get_elem?}
-use Rattle.lists.specs.Lists.{if◌then◌else◌, first, every, any, filter, find, distinct, member, from}
+use Rattle.lists.specs.Lists.{when◌then◌else◌, first, every, any, filter, find, distinct, member, from}
 use Rattle.lists.proofs.ListLaws.{and-left, and-right, and-both, or-none, no-both}
 use Rattle.lists.proofs.CaseLaws.{by-equal, if-test}
 
@@ -56,7 +56,7 @@ module _ {A : Type 0} where
   none-found t [] e = refl
   none-found t (x ∷ xs) e = go (none-found t xs) (t x) refl e
     where
-      go : (find t xs ≡ none → every (λ y. not (t y)) xs ≡ true) → (b : Bool) → t x ≡ b → (if b then some x else find t xs) ≡ none
+      go : (find t xs ≡ none → every (λ y. not (t y)) xs ≡ true) → (b : Bool) → t x ≡ b → (when b then some x else find t xs) ≡ none
           → (not (t x) && every (λ y. not (t y)) xs) ≡ true
       go ih true q e = none-some x (sym e)
       go ih false q e = and-both (not (t x)) _ (rw q) (ih e)
@@ -66,7 +66,7 @@ module _ {A : Type 0} where
   find-any t q [] x e h = none-some x e
   find-any t q (y ∷ ys) x e h = go (λ w. find-any t q ys x w h) (t y) e (q y) refl
     where
-      go : (find t ys ≡ some x → any q ys ≡ true) → (b : Bool) → (if b then some y else find t ys) ≡ some x
+      go : (find t ys ≡ some x → any q ys ≡ true) → (b : Bool) → (when b then some y else find t ys) ≡ some x
           → (c : Bool) → q y ≡ c → (c || any q ys) ≡ true
       go ih b e true w = refl
       go ih true e false w = let z : y ≡ x = cc in no-both (q y) (rw z h) w
@@ -81,8 +81,8 @@ module _ {A : Type 0} where
       away : any (r z) zs ≡ false
       away = not-true _ (and-left (not (any (r z) zs)) _ h)
 
-      go : (find t zs ≡ some x → find u zs ≡ some y → x ≡ y) → (b c : Bool) → (if b then some z else find t zs) ≡ some x
-          → (if c then some z else find u zs) ≡ some y → x ≡ y
+      go : (find t zs ≡ some x → find u zs ≡ some y → x ≡ y) → (b c : Bool) → (when b then some z else find t zs) ≡ some x
+          → (when c then some z else find u zs) ≡ some y → x ≡ y
       go ih true true e d = cc
       go ih true false e d = let k : z ≡ x = cc in no-both _ (find-any u (r z) zs y d (rw k p)) away
       go ih false true e d = let k : z ≡ y = cc in no-both _ (find-any t (r z) zs x e (rw k q)) away
@@ -98,8 +98,8 @@ module _ {A : Type 0} where
   filter-both q t (x ∷ xs) = go (filter-both q t xs) (q x) refl (t x)
     where
       go : filter q (filter t xs) ≡ filter (λ y. q y && t y) xs → (b : Bool) → q x ≡ b → (c : Bool)
-          → filter q (if c then x ∷ filter t xs else filter t xs)
-          ≡ (if b && c then x ∷ filter (λ y. q y && t y) xs else filter (λ y. q y && t y) xs)
+          → filter q (when c then x ∷ filter t xs else filter t xs)
+          ≡ (when b && c then x ∷ filter (λ y. q y && t y) xs else filter (λ y. q y && t y) xs)
       go ih true e true = rw e (ap (λ (l : List A). x ∷ l) ih)
       go ih false e true = rw e ih
       go ih true e false = ih
@@ -126,12 +126,12 @@ module _ {A : Type 0} where
   orFound none o = o
   orFound (some x) o = some x
 
-  pub find-end : (t : A → Bool) (xs : List A) (x : A) → find t (xs ++ (x ∷ [])) ≡ orFound (find t xs) (if t x then some x else none)
+  pub find-end : (t : A → Bool) (xs : List A) (x : A) → find t (xs ++ (x ∷ [])) ≡ orFound (find t xs) (when t x then some x else none)
   find-end t [] x = refl
   find-end t (y ∷ ys) x = go (find-end t ys x) (t y)
     where
-      go : find t (ys ++ (x ∷ [])) ≡ orFound (find t ys) (if t x then some x else none) → (b : Bool)
-          → (if b then some y else find t (ys ++ (x ∷ []))) ≡ orFound (if b then some y else find t ys) (if t x then some x else none)
+      go : find t (ys ++ (x ∷ [])) ≡ orFound (find t ys) (when t x then some x else none) → (b : Bool)
+          → (when b then some y else find t (ys ++ (x ∷ []))) ≡ orFound (when b then some y else find t ys) (when t x then some x else none)
       go ih true = refl
       go ih false = ih
 

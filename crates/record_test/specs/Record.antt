@@ -1,6 +1,6 @@
 -- An intentions record: what `sound` asks of it, and the parts of that as a program tests them.
 use Rattle.std.specs.Prelude.{◌≡◌, Bool, not, ◌&&◌, ◌||◌, List, [], ◌∷◌, ℕ, ◌+◌, ◌-◌, ◌≤◌, ◌<◌, eqb}
-use Rattle.lists.specs.Lists.{if◌then◌else◌, all, every}
+use Rattle.lists.specs.Lists.{when◌then◌else◌, all, every}
 use Rattle.sector.specs.Layout.{idleState, openState, decidedState, sectorLimit, fileLimit}
 use Rattle.sector.specs.Contents.{Bytes, Table, Entry}
 use Rattle.sector.specs.Decoding.{headerSectorIn, decodeRecord}
@@ -12,7 +12,7 @@ use Rattle.sector.specs.Encoded.{isRecordEncoding}
 
 -- State s fits c entries: idle has none, open and decided have any number. No other byte is a state.
 unfoldable pub stateFits : ℕ → ℕ → Bool
-stateFits s c = if eqb s idleState then eqb c 0 else (eqb s openState || eqb s decidedState)
+stateFits s c = when eqb s idleState then eqb c 0 else (eqb s openState || eqb s decidedState)
 
 -- Each entry fits, and no two are for one page or give one slot.
 unfoldable pub entriesFit : Table → List Entry → Bool

@@ -9,7 +9,7 @@ use Prim.Native.Nat.{ℕ, suc, ◌+◌, ◌-◌, ◌≤◌, ◌<◌}
 use native.Mathlib.Omega.{arith}
 use borrow.Author.Tests.{eq-eqb, ne_eqb}
 use lib.ListN.{length}
-use Rattle.lists.specs.Lists.{if◌then◌else◌, filter, member, from}
+use Rattle.lists.specs.Lists.{when◌then◌else◌, filter, member, from}
 use Rattle.sector.specs.Contents.{Record, Header, idleRecord}
 use Rattle.sector.proofs.EditLaws.{redone-length}
 use Rattle.lists.proofs.ListLaws.{no-both}
@@ -65,8 +65,8 @@ module _ (redo : Bool) (a : View) (k : ℕ) where
   unfolding releaseOf
   rest-more f fs = go (holds a k f)
     where
-      go : (b : Bool) → map (λ f. setHeader f (freed redo a k f)) (if b then f ∷ filter (holds a k) fs else filter (holds a k) fs) ++ (setRecord k idleRecord ∷ [])
-          ≡ (if b then setHeader f (freed redo a k f) ∷ [] else []) ++ rest fs
+      go : (b : Bool) → map (λ f. setHeader f (freed redo a k f)) (when b then f ∷ filter (holds a k) fs else filter (holds a k) fs) ++ (setRecord k idleRecord ∷ [])
+          ≡ (when b then setHeader f (freed redo a k f) ∷ [] else []) ++ rest fs
       go true = refl
       go false = refl
 

@@ -9,7 +9,7 @@ use Rattle.interface.specs.declared.Session.{Session}
 use Rattle.interface.specs.declared.Refusal.{Refusal}
 use Rattle.interface.specs.declared.FormatOutcome.{FormatOutcome}
 use Rattle.interface.specs.Answers.{newSession, FormatAnswer, formatDone, formatRefused}
-use Rattle.lists.specs.Lists.{if◌then◌else◌}
+use Rattle.lists.specs.Lists.{when◌then◌else◌}
 use Rattle.sector.specs.Contents.{Bytes, Table}
 use Rattle.volume.specs.Volumes.{Volume}
 use Rattle.volume.specs.Format.{tableFor, format}
@@ -67,7 +67,7 @@ module _ (v : Volume) (T : ℕ) (l script out : Bytes) where
   replay-all-or-none = go (hasRoom script (length out))
     where
       go : (b : Bool) → Claimed (tableFor (length v) T l) script
-          (if b then runFormatted (format v T l).answer (format v T l).volume script out else record { answer = noRoom; session = newSession; volume = v; out = out })
+          (when b then runFormatted (format v T l).answer (format v T l).volume script out else record { answer = noRoom; session = newSession; volume = v; out = out })
       go true = formatted-claim (format v T l).answer refl
       go false = tt
 

@@ -9,7 +9,7 @@ use borrow.Author.Tests.{le-leb, lt-leb, leb-true}
 use lib.Dec.{leb}
 use lib.ListN.{length, take, drop, length-drop}
 use lib.Seq.{drop-drop, get_or-drop}
-use Rattle.lists.specs.Lists.{if◌then◌else◌}
+use Rattle.lists.specs.Lists.{when◌then◌else◌}
 use Rattle.sector.specs.Contents.{Bytes}
 use Rattle.sector.specs.Sectors.{byte, word}
 use Rattle.lists.proofs.ListLaws.{and-left, and-right}
@@ -73,11 +73,11 @@ enough zero zero l h g = refl
 enough zero (suc m) l h g = rw (short-none l (omega arith))
 enough (suc n) zero l h g = rw (short-none l (omega arith))
 enough (suc n) (suc m) l h g =
-    ap (λ (xs : List Step). if isWhole l then stepIn l ∷ xs else [])
+    ap (λ (xs : List Step). when isWhole l then stepIn l ∷ xs else [])
     (enough n m (drop (stepSize l) l) (omega (arith, length-drop (stepSize l) l)) (omega (arith, length-drop (stepSize l) l)))
 
 -- One look more finds nothing more.
-one-more : (l : Bytes) → steps l ≡ (if isWhole l then stepIn l ∷ stepsFrom (length l) (drop (stepSize l) l) else [])
+one-more : (l : Bytes) → steps l ≡ (when isWhole l then stepIn l ∷ stepsFrom (length l) (drop (stepSize l) l) else [])
 unfolding stepsFrom
 one-more l = enough (length l) (suc (length l)) l (omega arith) (omega arith)
 

@@ -1,8 +1,7 @@
 -- The entries of a transcript: how long each is, whatever a step says, and that what is noted of a command is what its step says.
 use mathlib.Core.Path.{◌≡◌, refl, sym, ap, subst, ◌∙◌}
 use mathlib.Core.List.{List, [], ◌∷◌, ◌++◌, append-nil}
-use Prim.Native.Nat.{ℕ, ◌+◌, ◌*◌, ◌-◌, ◌/◌, ◌%◌, ◌≤◌, ◌<◌}
-use native.Mathlib.Numerals.{add-one}
+use Prim.Native.Nat.{ℕ, ◌+◌, ◌*◌, ◌-◌, ◌≤◌}
 use native.Mathlib.Omega.{arith}
 use lib.ListN.{length, take, drop, set, length-append, length-take}
 use lib.Seq.{sets, sets-eq, length-sets, get_or-drop}
@@ -12,7 +11,7 @@ use Rattle.interface.specs.declared.Outcome.{Outcome}
 use Rattle.interface.specs.declared.QueryOutcome.{QueryOutcome}
 use Rattle.interface.specs.Answers.{Answer, done, crashed, refused, QueryAnswer, found, queryRefused, refusalNumber, answerOf, queryAnswerOf}
 use Rattle.sector.specs.Contents.{Bytes}
-use Rattle.sector.specs.Sectors.{sector, byte, word, wordBytes, padded, zeroSector}
+use Rattle.sector.specs.Sectors.{sector, byte, word, padded, zeroSector}
 use Rattle.volume.specs.Volumes.{Volume}
 use Rattle.sector.proofs.CodecLaws.{padded-length}
 use Rattle.sector.proofs.SectorLaws.{sector-length}

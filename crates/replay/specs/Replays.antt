@@ -2,7 +2,7 @@
 use Rattle.std.specs.Prelude.{Bool, ℕ, leb, length}
 use Rattle.interface.specs.declared.Session.{Session}
 use Rattle.interface.specs.Answers.{newSession, refusalNumber, FormatAnswer, formatDone, formatRefused}
-use Rattle.lists.specs.Lists.{if◌then◌else◌}
+use Rattle.lists.specs.Lists.{when◌then◌else◌}
 use Rattle.sector.specs.Contents.{Bytes, Table}
 use Rattle.volume.specs.Volumes.{Volume}
 use Rattle.volume.specs.Format.{format}
@@ -52,7 +52,7 @@ runLeft r script out =
 -- Nothing is run where the transcript has no room.
 abbrev pub replayed : Configuration → (script : Bytes) → (out : Bytes) → Left
 replayed r script out =
-    if hasRoom script (length out) then runLeft r script out
+    when hasRoom script (length out) then runLeft r script out
     else record { answer = noRoom; session = r.session; volume = r.volume; out = out }
 
 -- The script on what a format left; nothing more if it was refused.
@@ -63,7 +63,7 @@ runFormatted (formatRefused n) v script out = record { answer = notFormatted n; 
 -- The array is formatted, and the script run on it; nothing at all where the transcript has no room.
 abbrev pub formattedAndRun : Volume → ℕ → Bytes → (script : Bytes) → (out : Bytes) → Left
 formattedAndRun v T l script out =
-    if hasRoom script (length out) then runFormatted (format v T l).answer (format v T l).volume script out
+    when hasRoom script (length out) then runFormatted (format v T l).answer (format v T l).volume script out
     else record { answer = noRoom; session = newSession; volume = v; out = out }
 
 -- ------------------------------------------------------------------ all or none

@@ -1,7 +1,7 @@
 -- Scripts: a list of steps as bytes. A step has 8 bytes, and then its data: which call, crash, client, file, page, budget, and the
 -- number of bytes of data, low byte first.
 use Rattle.std.specs.Prelude.{Bool, not, ◌&&◌, List, [], ◌∷◌, ℕ, zero, suc, ◌+◌, eqb, leb, length, take, drop}
-use Rattle.lists.specs.Lists.{if◌then◌else◌}
+use Rattle.lists.specs.Lists.{when◌then◌else◌}
 use Rattle.sector.specs.Contents.{Bytes}
 use Rattle.sector.specs.Sectors.{byte, word}
 use Rattle.atomicity.specs.Runs.{Step}
@@ -12,13 +12,13 @@ use Rattle.commands.specs.Commands.{stepOf}
 -- 0 begin, 1 open, 2 write, 3 commit, 4 abort, 6 open for reading, 7 look; any other is a read.
 abbrev pub actionOf : ℕ → Action
 actionOf n =
-    if eqb n 0 then Action.Begin
-    else if eqb n 1 then Action.Open
-    else if eqb n 2 then Action.Write
-    else if eqb n 3 then Action.Commit
-    else if eqb n 4 then Action.Abort
-    else if eqb n 6 then Action.OpenRead
-    else if eqb n 7 then Action.Look
+    when eqb n 0 then Action.Begin
+    else when eqb n 1 then Action.Open
+    else when eqb n 2 then Action.Write
+    else when eqb n 3 then Action.Commit
+    else when eqb n 4 then Action.Abort
+    else when eqb n 6 then Action.OpenRead
+    else when eqb n 7 then Action.Look
     else Action.Read
 
 -- The command of the step at the front. `crash` other than 0: it is given a new session. A question hands back none, so a crash
@@ -48,7 +48,7 @@ stepIn l = stepOf (commandIn l) (take (word l 6) (drop 8 l))
 -- The steps at the front, n at most.
 unfoldable pub stepsFrom : ℕ → Bytes → List Step
 stepsFrom zero l = []
-stepsFrom (suc n) l = if isWhole l then stepIn l ∷ stepsFrom n (drop (stepSize l) l) else []
+stepsFrom (suc n) l = when isWhole l then stepIn l ∷ stepsFrom n (drop (stepSize l) l) else []
 
 -- All steps of a script. Bytes at its end that are no whole step say nothing.
 abbrev pub steps : Bytes → List Step

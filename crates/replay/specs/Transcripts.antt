@@ -5,7 +5,7 @@
 use Rattle.std.specs.Prelude.{List, [], ◌∷◌, ◌++◌, ℕ, ◌+◌, eqb, get_or, take, drop}
 use Rattle.interface.specs.declared.Session.{Session}
 use Rattle.interface.specs.Answers.{sessionOf, marksByte, Answer, done, crashed, refused, QueryAnswer, found, queryRefused}
-use Rattle.lists.specs.Lists.{if◌then◌else◌}
+use Rattle.lists.specs.Lists.{when◌then◌else◌}
 use Rattle.sector.specs.Contents.{Bytes}
 use Rattle.sector.specs.Sectors.{byte, word, wordBytes, padded}
 use Rattle.atomicity.specs.Runs.{Step, calls, asks}
@@ -56,11 +56,11 @@ transcriptLength (x ∷ xs) = entryLength x + transcriptLength xs
 -- ------------------------------------------------------------------ read back
 -- A call's answer, by its kind and number.
 abbrev pub answerIn : (kind : ℕ) → (number : ℕ) → Answer
-answerIn kind n = if eqb kind 0 then done n else if eqb kind 1 then crashed n else refused n
+answerIn kind n = when eqb kind 0 then done n else when eqb kind 1 then crashed n else refused n
 
 -- A question's answer.
 abbrev pub queryAnswerIn : (kind : ℕ) → (number : ℕ) → QueryAnswer
-queryAnswerIn kind n = if eqb kind 3 then found n else queryRefused n
+queryAnswerIn kind n = when eqb kind 3 then found n else queryRefused n
 
 -- What a question showed: nothing where it was refused.
 abbrev pub shownIn : QueryAnswer → Bytes → Bytes

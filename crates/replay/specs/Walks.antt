@@ -2,7 +2,7 @@
 use Rattle.std.specs.Prelude.{◌≡◌, [], ℕ}
 use Rattle.interface.specs.declared.Session.{Session}
 use Rattle.interface.specs.Answers.{answerOf, queryAnswerOf}
-use Rattle.lists.specs.Lists.{if◌then◌else◌}
+use Rattle.lists.specs.Lists.{when◌then◌else◌}
 use Rattle.sector.specs.Contents.{Bytes}
 use Rattle.volume.specs.Volumes.{Volume}
 use Rattle.rules.specs.Calls.{query, partOf, queryPart}
@@ -18,7 +18,7 @@ use Rattle.replay.specs.Transcripts.{entryOf}
 
 -- The length of the whole step at the front; 0 if there is none.
 unfoldable pub stepLength : Bytes → ℕ
-stepLength l = if isWhole l then stepSize l else 0
+stepLength l = when isWhole l then stepSize l else 0
 
 -- The length of the entry of a command that is this call.
 abbrev pub actionLength : Action → ℕ

@@ -2,6 +2,7 @@
 // `format_and_replay` has all or none in its contract, as a claim about nothing but the script, the transcript and the
 // volume that is left.
 #![tactic(auto)]
+
 mod run;
 mod steps;
 mod transcript;

@@ -5,7 +5,7 @@ use Prim.Native.Nat.{ℕ}
 use lib.Dec.{eqb}
 use Rattle.interface.specs.declared.Session.{Session}
 pub use Rattle.interface.proofs.AnswerExamples.{marks}
-use Rattle.lists.specs.Lists.{if◌then◌else◌}
+use Rattle.lists.specs.Lists.{when◌then◌else◌}
 use Rattle.sector.specs.Contents.{Bytes, Table, Record, Header, idleRecord}
 use Rattle.volume.specs.Views.{View, noHeader}
 pub use Rattle.volume.proofs.PlaceExamples.{entry, rec, header}
@@ -36,7 +36,7 @@ abbrev pub viewOf : Table → (ℕ → Record) → Header → Header → (ℕ �
 viewOf t records h1 h2 slots = record {
   table = t;
   records = records;
-  headers = λ f. if eqb f 1 then h1 else if eqb f 2 then h2 else noHeader;
+  headers = λ f. when eqb f 1 then h1 else when eqb f 2 then h2 else noHeader;
   slots = slots;
 }
 
@@ -52,8 +52,8 @@ seen records h1 h2 = viewOf table records h1 h2 (λ f r. f ∷ r ∷ [])
 -- Client 2's is decided, holds nothing, and gives slot 0 for page 0 and slot 3 for page 1 of file 1. Clients 3 and 4 are idle.
 abbrev pub records : (state : ℕ) → ℕ → Record
 records state k =
-    if eqb k 1 then rec state (entry 1 1 4 ∷ entry 2 0 2 ∷ [])
-    else if eqb k 2 then rec 2 (entry 1 0 0 ∷ entry 1 1 3 ∷ [])
+    when eqb k 1 then rec state (entry 1 1 4 ∷ entry 2 0 2 ∷ [])
+    else when eqb k 2 then rec 2 (entry 1 0 0 ∷ entry 1 1 3 ∷ [])
     else idleRecord
 
 abbrev pub at : (state : ℕ) → View

@@ -10,7 +10,7 @@ use Prim.Native.Nat.{ℕ}
 use borrow.Author.Tests.{eqb-true, eqb-false, eq-eqb, ne_eqb}
 use lib.Dec.{eqb}
 use Rattle.interface.specs.declared.Session.{Session}
-use Rattle.lists.specs.Lists.{if◌then◌else◌, every, member}
+use Rattle.lists.specs.Lists.{when◌then◌else◌, every, member}
 use Rattle.sector.specs.Contents.{Bytes, Entry, idleRecord}
 use Rattle.lists.proofs.ListLaws.{and-left, and-right, and-both, or-none}
 use Rattle.lists.proofs.CaseLaws.{by-equal, if-test}
@@ -37,7 +37,7 @@ free-kept (setSlot f r d ∷ xs) a g e h = free-kept xs _ g e h
 free-kept (setHeader f x ∷ xs) a g e h =
     free-kept xs _ g (and-right (not (eqb g f) || eqb x.holder 0) _ e) (go (eqb g f) (and-left (not (eqb g f) || eqb x.holder 0) _ e))
   where
-    go : (b : Bool) → (not b || eqb x.holder 0) ≡ true → (if b then x else a.headers g).holder ≡ 0
+    go : (b : Bool) → (not b || eqb x.holder 0) ≡ true → (when b then x else a.headers g).holder ≡ 0
     go true q = eqb-true _ _ q
     go false q = h
 
@@ -57,7 +57,7 @@ module _ (m : ℕ → List ℕ) (g : ℕ) where
   freed (f ∷ fs) a k e = freed fs _ k (go (eqb g f) e)
     where
       go : (b : Bool) → ((b || member g fs) || eqb (a.headers g).holder 0) ≡ true
-          → (member g fs || eqb (if b then record { holder = 0; map = m f } else a.headers g).holder 0) ≡ true
+          → (member g fs || eqb (when b then record { holder = 0; map = m f } else a.headers g).holder 0) ≡ true
       go true q = or-true (member g fs) true refl
       go false q = q
 
@@ -89,7 +89,7 @@ module _ (a : View) (s : Session) (g : ℕ) where
 
   begin-keeps : (k : ℕ) → Kept (beginPlan a s k)
   unfolding beginPlan
-  begin-keeps k = every-end (keepsFree g) (if isOrphaned a s k then recovery (isDecided a k) a k else []) _
+  begin-keeps k = every-end (keepsFree g) (when isOrphaned a s k then recovery (isDecided a k) a k else []) _
       (if-test Kept (isOrphaned a s k) _ [] (λ e. recovery-keeps (isDecided a k) a k g) (λ e. refl)) refl
 
   open-keeps : (k f : ℕ) → eqb g f ≡ false → Kept (openPlan a s k f)

@@ -8,7 +8,7 @@ use lib.Dec.{eqb}
 use lib.ListN.{replicate}
 use Rattle.interface.specs.declared.Session.{Session}
 use Rattle.interface.specs.Answers.{newSession}
-use Rattle.lists.specs.Lists.{if◌then◌else◌, all, first, filter, member, from}
+use Rattle.lists.specs.Lists.{when◌then◌else◌, all, first, filter, member, from}
 use Rattle.sector.specs.Contents.{Bytes, Entry, idleRecord, openRecord}
 use Rattle.volume.specs.Places.{sectorAfter}
 use Rattle.volume.specs.Views.{View, noHeader}
@@ -101,7 +101,7 @@ client-4 = refl
 
 -- Clients 1 and 3 have begun, and client 1 holds file 1.
 abbrev at3 : View
-at3 = seen (λ k. if member k (1 ∷ 3 ∷ []) then openRecord else idleRecord) (header 1 (1 ∷ 5 ∷ 2 ∷ [])) (header 0 (0 ∷ []))
+at3 = seen (λ k. when member k (1 ∷ 3 ∷ []) then openRecord else idleRecord) (header 1 (1 ∷ 5 ∷ 2 ∷ [])) (header 0 (0 ∷ []))
 
 -- 6 and 7 of client 3's open: file 3; file 2, which nobody holds; file 1, which client 1 holds, not marked and marked.
 open-refused : map (λ f. applying (tests true at3 active3 (openFile 3 f))) (3 ∷ 2 ∷ 1 ∷ [])
@@ -145,7 +145,7 @@ look-refused = refl
 -- ------------------------------------------------------------------ reading holds
 -- Clients 1, 2 and 3 have begun, and nobody holds a file for writing. Clients 1 and 2 read file 1, client 3 reads file 2.
 abbrev begun : View
-begun = seen (λ k. if eqb k 4 then idleRecord else openRecord) (header 0 (1 ∷ 5 ∷ 2 ∷ [])) (header 0 (0 ∷ []))
+begun = seen (λ k. when eqb k 4 then idleRecord else openRecord) (header 0 (1 ∷ 5 ∷ 2 ∷ [])) (header 0 (0 ∷ []))
 
 abbrev reading : Session
 reading = reads (marks true true true false) (1 ∷ 1 ∷ 2 ∷ 0 ∷ [])
@@ -188,7 +188,7 @@ both-holds = refl
 -- What applies to a write by client 2, which holds file 1, with these entries and this map.
 abbrev writing : List Entry → List ℕ → ℕ → Bytes → List ℕ
 writing es m p d =
-    let a = seen (λ k. if eqb k 2 then rec 1 es else idleRecord) (header 2 m) noHeader in
+    let a = seen (λ k. when eqb k 2 then rec 1 es else idleRecord) (header 2 m) noHeader in
     applying (tests true a active2 (write 2 1 p d))
 
 -- 9 and 10: page 3; 255 and 257 bytes.
@@ -230,7 +230,7 @@ all-apply = refl
 abbrev full : View
 full = viewOf
     (record { sectors = 245; clients = 1; files = record { pages = 70; slots = 240 } ∷ record { pages = 1; slots = 1 } ∷ [] })
-    (λ k. if eqb k 1 then rec 1 (map (λ p. entry 1 p (70 + p)) (from 0 62)) else idleRecord)
+    (λ k. when eqb k 1 then rec 1 (map (λ p. entry 1 p (70 + p)) (from 0 62)) else idleRecord)
     (header 1 (from 0 70))
     (header 1 (0 ∷ []))
     (λ f r. [])

@@ -8,7 +8,7 @@ use lib.Dec.{eqb}
 use lib.ListN.{replicate}
 use Rattle.interface.specs.declared.Session.{Session}
 use Rattle.interface.specs.Answers.{newSession}
-use Rattle.lists.specs.Lists.{if◌then◌else◌, all, from}
+use Rattle.lists.specs.Lists.{when◌then◌else◌, all, from}
 use Rattle.byteset.specs.Bits.{withBit, withoutBit}
 use Rattle.sector.specs.Contents.{Table, Record, idleRecord, openRecord, decidedRecord}
 use Rattle.volume.specs.Views.{noHeader}
@@ -91,7 +91,7 @@ unfolding markFits all
 mark-fits = refl
 
 -- The entries are those of the client's own record: client 2 has one for file 1, which client 1 holds.
-mark-own : let given : ℕ → Record = λ k. if eqb k 2 then rec 1 (entry 1 0 0 ∷ []) else openRecord in
+mark-own : let given : ℕ → Record = λ k. when eqb k 2 then rec 1 (entry 1 0 0 ∷ []) else openRecord in
     map (markFits (seen given (header 1 (1 ∷ 5 ∷ 2 ∷ [])) noHeader)) (1 ∷ 2 ∷ []) ≡ true ∷ false ∷ []
 unfolding markFits all
 mark-own = refl
@@ -109,7 +109,7 @@ all-four-fit = refl
 abbrev fourth : (T : ℕ) → Record → Bool
 fourth T r =
     let t : Table = record { sectors = 11; clients = T; files = record { pages = 1; slots = 1 } ∷ [] } in
-    sessionFits (viewOf t (λ k. if eqb k 4 then r else idleRecord) (header 0 (0 ∷ [])) noHeader (λ f r. [])) active4
+    sessionFits (viewOf t (λ k. when eqb k 4 then r else idleRecord) (header 0 (0 ∷ [])) noHeader (λ f r. [])) active4
 
 -- "a kiln above T", though its record is open.
 above-T : fourth 3 openRecord ≡ false

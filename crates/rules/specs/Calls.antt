@@ -3,7 +3,7 @@
 use Rattle.std.specs.Prelude.{List, [], ℕ, zero, suc, leb, length}
 use Rattle.interface.specs.declared.Session.{Session}
 use Rattle.interface.specs.Answers.{newSession, Answer, done, crashed, refused, QueryAnswer, found, queryRefused}
-use Rattle.lists.specs.Lists.{if◌then◌else◌, first}
+use Rattle.lists.specs.Lists.{when◌then◌else◌, first}
 use Rattle.sector.specs.Contents.{Bytes}
 use Rattle.sector.specs.Sectors.{sector}
 use Rattle.volume.specs.Places.{slotPlace, sectorOf}
@@ -25,7 +25,7 @@ pub record After : Type 0 where
 -- and hands back a new session. Otherwise it answers done with that number", and the first so many are all.
 abbrev pub executed : Volume → Session → Call → (budget : ℕ) → List Store → After
 executed v s c budget xs =
-    if leb (length xs) budget
+    when leb (length xs) budget
     then record { answer = done (length xs); session = sessionAfter (view v) s c; volume = cutAt v xs budget }
     else record { answer = crashed budget; session = newSession; volume = cutAt v xs budget }
 

@@ -2,7 +2,7 @@
 use Rattle.std.specs.Prelude.{Bool, true, false, not, ◌&&◌, List, [], ◌∷◌, ◌++◌, ℕ, ◌+◌, eqb, leb, ltb, get_or}
 use Rattle.std.proofs.Math.Option.{Option, none, some}
 use Rattle.interface.specs.declared.Session.{Session}
-use Rattle.lists.specs.Lists.{if◌then◌else◌, any, filter, find, member, from}
+use Rattle.lists.specs.Lists.{when◌then◌else◌, any, filter, find, member, from}
 use Rattle.sector.specs.Contents.{Bytes, Entry, openRecord, decidedRecord, appended}
 use Rattle.sector.specs.Entries.{forPage, givesSlot}
 use Rattle.volume.specs.Places.{fileAt}
@@ -62,7 +62,7 @@ slotFor a f p none = mappedSlot a f p
 -- ------------------------------------------------------------------ the stores of each call
 -- "recover k if interrupted; store record k open, C = 0"
 unfoldable pub beginPlan : View → Session → ℕ → List Update
-beginPlan a s k = (if isOrphaned a s k then recovery (isDecided a k) a k else []) ++ (setRecord k openRecord ∷ [])
+beginPlan a s k = (when isOrphaned a s k then recovery (isDecided a k) a k else []) ++ (setRecord k openRecord ∷ [])
 
 -- "an interrupted kiln holds f". Holder 0 is nobody.
 abbrev pub heldByOrphan : View → Session → ℕ → Bool
@@ -76,8 +76,8 @@ unfoldable pub openPlan : View → Session → ℕ → ℕ → List Update
 openPlan a s k f =
     let holder = (a.headers f).holder in
     let redo = isDecided a holder in
-    if holds a k f then []
-    else if heldByOrphan a s f
+    when holds a k f then []
+    else when heldByOrphan a s f
     then recovery redo a holder ++ (setHeader f (record { holder = k; map = mapAfter redo a holder f }) ∷ [])
     else setHeader f (record { holder = k; map = (a.headers f).map }) ∷ []
 
@@ -86,8 +86,8 @@ openPlan a s k f =
 unfoldable pub openReadPlan : View → Session → ℕ → ℕ → List Update
 openReadPlan a s k f =
     let holder = (a.headers f).holder in
-    if holdsEither a s k f then []
-    else if heldByOrphan a s f then recovery (isDecided a holder) a holder
+    when holdsEither a s k f then []
+    else when heldByOrphan a s f then recovery (isDecided a holder) a holder
     else []
 
 -- "if record k has (f, p), store the page in that real sector. Else take" the slot chosen for it; "store the page there; store
@@ -113,7 +113,7 @@ plan a s (abort k) = recovery false a k
 abbrev pub sessionAfter : View → Session → Call → Session
 sessionAfter a s (begin k) = setActive s k true
 sessionAfter a s (openFile k f) = withoutReading s k f
-sessionAfter a s (openRead k f) = if holdsEither a s k f then s else withReading s k f
+sessionAfter a s (openRead k f) = when holdsEither a s k f then s else withReading s k f
 sessionAfter a s (write k f p d) = s
 sessionAfter a s (commit k) = withoutReader (setActive s k false) k
 sessionAfter a s (abort k) = withoutReader (setActive s k false) k

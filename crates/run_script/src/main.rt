@@ -1,5 +1,6 @@
 // Runs a script of calls from standard input on a volume of its own, and prints the answer of each line.
 #![tactic(auto)]
+
 mod print;
 mod step;
 

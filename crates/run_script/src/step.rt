@@ -84,7 +84,13 @@ fn inspect(rt: &impl Print, v: &mut [u8], kind: Kind, line: &[u8]) -> io::Result
 }
 
 // Runs a line on the volume.
-fn run_line(rt: &impl Print, v: &mut [u8], s: Session, kind: Kind, line: &[u8]) -> io::Result<Turn> {
+fn run_line(
+    rt: &impl Print,
+    v: &mut [u8],
+    s: Session,
+    kind: Kind,
+    line: &[u8],
+) -> io::Result<Turn> {
     match kind {
         Kind::Begin => run_call(rt, v, s, Action::Begin, line),
         Kind::Open => run_call(rt, v, s, Action::Open, line),

@@ -1,7 +1,7 @@
 -- The fields of a line: "a word and decimal numbers separated by single spaces". A field is what stands between two
 -- spaces; field 0 is the word, field i is argument i.
 use Rattle.std.specs.Prelude.{Bool, ◌&&◌, ◌||◌, [], ◌∷◌, ℕ, zero, suc, ◌+◌, ◌*◌, ◌-◌, min, eqb, get_or, drop}
-use Rattle.lists.specs.Lists.{if◌then◌else◌, between}
+use Rattle.lists.specs.Lists.{when◌then◌else◌, between}
 use Rattle.sector.specs.Contents.{Bytes}
 
 -- 20: a space
@@ -14,7 +14,7 @@ isDigit c = between 48 c 57
 
 -- 1 for a space
 abbrev pub spaces : ℕ → ℕ
-spaces c = if isSpace c then 1 else 0
+spaces c = when isSpace c then 1 else 0
 
 -- The number of arguments: one behind each space.
 abbrev pub arguments : Bytes → ℕ
@@ -24,7 +24,7 @@ arguments (c ∷ l) = spaces c + arguments l
 -- What stands behind the first space, or nothing.
 abbrev pub behindSpace : Bytes → Bytes
 behindSpace [] = []
-behindSpace (c ∷ l) = if isSpace c then l else behindSpace l
+behindSpace (c ∷ l) = when isSpace c then l else behindSpace l
 
 -- The line from field i on.
 unfoldable pub fromField : ℕ → Bytes → Bytes
@@ -39,8 +39,8 @@ tooLarge = 1000000
 abbrev pub digitsFrom : ℕ → Bytes → ℕ
 digitsFrom n [] = n
 digitsFrom n (c ∷ l) =
-    if isSpace c then n
-    else if isDigit c then digitsFrom (min (10 * n + (c - 48)) tooLarge) l
+    when isSpace c then n
+    else when isDigit c then digitsFrom (min (10 * n + (c - 48)) tooLarge) l
     else tooLarge
 
 -- The byte at the front; behind the end of a line it is a space.
@@ -49,7 +49,7 @@ front l = get_or l 0 0x20
 
 -- The number at the front: one digit or more, up to the next space.
 abbrev pub number : Bytes → ℕ
-number l = if isSpace (front l) then tooLarge else digitsFrom 0 l
+number l = when isSpace (front l) then tooLarge else digitsFrom 0 l
 
 -- Argument i, counted from 1.
 abbrev pub argument : ℕ → Bytes → ℕ

@@ -3,7 +3,7 @@
 use Rattle.std.specs.Prelude.{Bool, List, [], ◌∷◌, ◌++◌, ℕ, ◌+◌, ◌-◌, leb, length, get_or, replicate}
 use Prim.Native.Char.{code}
 use Prim.Native.String.{String, [] as []ˢ, ◌∷◌ as ◌∷ˢ◌}
-use Rattle.lists.specs.Lists.{if◌then◌else◌, all, every, from}
+use Rattle.lists.specs.Lists.{when◌then◌else◌, all, every, from}
 use Rattle.sector.specs.Contents.{Bytes}
 use Rattle.script.specs.declared.Kind.{Kind}
 use Rattle.script.specs.declared.Row.{Row}
@@ -74,7 +74,7 @@ fits x l = all (hasWord x.1 l ∷ leb x.2 (arguments l) ∷ leb (arguments l) x.
 -- What a line asks for, by the first of these rows that it fits.
 unfoldable pub kindIn : List Row → Bytes → Kind
 kindIn [] l = Kind.Unknown
-kindIn (x ∷ xs) l = if fits x l then x.0 else kindIn xs l
+kindIn (x ∷ xs) l = when fits x l then x.0 else kindIn xs l
 
 -- What a line asks for.
 abbrev pub kindOf : Bytes → Kind

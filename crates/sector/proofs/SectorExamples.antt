@@ -7,7 +7,7 @@ use mathlib.Core.Option.{none, some}
 use Prim.Native.Nat.{ℕ}
 use lib.Dec.{eqb, ltb}
 use lib.ListN.{replicate, set}
-use Rattle.lists.specs.Lists.{if◌then◌else◌, between, all, first, every, any, filter, find, isSome, distinct, member, same, from}
+use Rattle.lists.specs.Lists.{when◌then◌else◌, between, all, first, every, any, filter, find, isSome, distinct, member, same, from}
 use Rattle.sector.specs.Layout.{sectorLimit, clientLimit, fileLimit, pageLimit, slotLimit, entryLimit}
 use Rattle.sector.specs.Contents.{Bytes, File, Table, Entry, Record, Header, firstHeader, nextHeader, spareSlots, isIdle, isOpen, isDecidedRecord, idleRecord, openRecord, decidedRecord, appended}
 use Rattle.sector.specs.Entries.{forFile, forPage, givesSlot, redone, pagesBelow, filePagesBelow}
@@ -19,7 +19,7 @@ use Rattle.sector.specs.Edits.{entryApplied, entriesApplied}
 
 -- ------------------------------------------------------------------ Lists
 abbrev picked : Bool → ℕ
-picked b = if b then 1 else 2
+picked b = when b then 1 else 2
 
 choice : map picked (true ∷ false ∷ []) ≡ 1 ∷ 2 ∷ []
 choice = refl

@@ -1,7 +1,7 @@
 -- Runs of stores under a budget. A run is continued by further stores: each is made if the run hasn't crashed and its budget
 -- isn't used up, otherwise the run has crashed.
 use Rattle.std.specs.Prelude.{◌≡◌, Bool, false, not, ◌&&◌, List, [], ◌∷◌, ℕ, ◌+◌, ltb}
-use Rattle.lists.specs.Lists.{if◌then◌else◌}
+use Rattle.lists.specs.Lists.{when◌then◌else◌}
 use Rattle.sector.specs.Sectors.{storeAt}
 use Rattle.volume.specs.Views.{Update, changedBy}
 use Rattle.volume.specs.Volumes.{Volume, view}
@@ -19,12 +19,12 @@ goesOn r = not r.crashed && ltb r.made r.budget
 
 -- A run that was to make another store: one store more, or a crash.
 abbrev pub counted : Run → Run
-counted r = record { budget = r.budget; made = if goesOn r then r.made + 1 else r.made; crashed = not (goesOn r) }
+counted r = record { budget = r.budget; made = when goesOn r then r.made + 1 else r.made; crashed = not (goesOn r) }
 
 -- The volume and the run after these stores, in order.
 unfoldable pub storesMade : Volume × Run → List Store → Volume × Run
 storesMade p [] = p
-storesMade p (x ∷ xs) = storesMade (if goesOn p.1 then storeAt p.0 x.target x.bytes else p.0, counted p.1) xs
+storesMade p (x ∷ xs) = storesMade (when goesOn p.1 then storeAt p.0 x.target x.bytes else p.0, counted p.1) xs
 
 -- The run r on the volume v, continued by the stores of these updates, left the volume w and came to q.
 pub record UpdatesMade (v : Volume) (r : Run) (xs : List Update) (w : Volume) (q : Run) : Type 0 where

@@ -11,7 +11,7 @@ use borrow.Author.Tests.{lt-ltb, le-ltb}
 use lib.Dec.{ltb}
 use lib.ListN.{length, set, length-append}
 use lib.Seq.{sets-eq}
-use Rattle.lists.specs.Lists.{if◌then◌else◌}
+use Rattle.lists.specs.Lists.{when◌then◌else◌}
 use Rattle.lists.proofs.ListLaws.{sets-append}
 use Rattle.sector.specs.Contents.{Bytes}
 use Rattle.volume.specs.Listing.{digit, decimal}
@@ -48,7 +48,7 @@ module _ (n : ℕ) where
   unfolding decimal
   below-100 h = rw (lt-ltb n 100 h) (go (ltb n 10))
     where
-      go : (b : Bool) → length (if b then digit n ∷ [] else digit (n / 10) ∷ digit (n % 10) ∷ []) ≤ 2
+      go : (b : Bool) → length (when b then digit n ∷ [] else digit (n / 10) ∷ digit (n % 10) ∷ []) ≤ 2
       go true = omega arith
       go false = omega arith
 
@@ -56,7 +56,7 @@ module _ (n : ℕ) where
   unfolding decimal
   any-number = go (ltb n 10) (ltb n 100)
     where
-      go : (a b : Bool) → length (if a then digit n ∷ [] else if b then digit (n / 10) ∷ digit (n % 10) ∷ []
+      go : (a b : Bool) → length (when a then digit n ∷ [] else when b then digit (n / 10) ∷ digit (n % 10) ∷ []
           else digit (n / 100) ∷ digit (n / 10 % 10) ∷ digit (n % 10) ∷ []) ≤ 3
       go true b = omega arith
       go false true = omega arith

@@ -4,7 +4,7 @@ use mathlib.Core.Bool.{Bool, true, false, not}
 use mathlib.Core.List.{List, [], ◌∷◌, ◌++◌}
 use Prim.Native.Nat.{ℕ}
 use Rattle.interface.specs.declared.Session.{Session}
-use Rattle.lists.specs.Lists.{if◌then◌else◌}
+use Rattle.lists.specs.Lists.{when◌then◌else◌}
 use Rattle.sector.specs.Contents.{isIdle, openRecord}
 use Rattle.volume.specs.Views.{View, Update, setRecord}
 use Rattle.rules.specs.Sessions.{isActive}
@@ -17,6 +17,6 @@ pub begin-plan : (a : View) (s : Session) (k : ℕ) → isActive s k ≡ false
 unfolding plan beginPlan recoveryNow
 begin-plan a s k off = rw off (ap (λ (l : List Update). l ++ (setRecord k openRecord ∷ [])) (go (isIdle (a.records k))))
   where
-    go : (b : Bool) → (if not b then recovery (isDecided a k) a k else []) ≡ (if b then [] else recovery (isDecided a k) a k)
+    go : (b : Bool) → (when not b then recovery (isDecided a k) a k else []) ≡ (when b then [] else recovery (isDecided a k) a k)
     go true = refl
     go false = refl

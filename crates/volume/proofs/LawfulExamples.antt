@@ -7,7 +7,7 @@ use Prim.Native.Nat.{ℕ, ◌+◌}
 use native.Mathlib.Omega.{arith}
 use lib.Dec.{eqb}
 use lib.ListN.{take, replicate, set}
-use Rattle.lists.specs.Lists.{if◌then◌else◌, all, every, from}
+use Rattle.lists.specs.Lists.{when◌then◌else◌, all, every, from}
 use Rattle.sector.specs.Contents.{Table, Record, Header, idleRecord}
 use Rattle.sector.specs.Sectors.{sector, storeAt, byte, padded}
 use Rattle.sector.specs.Encoding.{fileBytes, encodeTable, entryBytes, encodeRecord, encodeHeader}
@@ -117,10 +117,10 @@ seen t records headers = record { table = t; records = records; headers = header
 
 -- Record n, or header n, doesn't fit; all others do.
 abbrev oddRecord : ℕ → ℕ → Record
-oddRecord n k = if eqb k n then rec 3 [] else idleRecord
+oddRecord n k = when eqb k n then rec 3 [] else idleRecord
 
 abbrev oddHeader : ℕ → ℕ → Header
-oddHeader n f = if eqb f n then header 9 [] else header 0 (0 ∷ [])
+oddHeader n f = when eqb f n then header 9 [] else header 0 (0 ∷ [])
 
 -- The table, the records of clients 1 to T and the headers of files 1 to F must fit, and no others.
 lawful-views : lawful (seen (ofSectors 9) (oddRecord 0) (oddHeader 0))

@@ -3,7 +3,7 @@
 use mathlib.Core.Path.{◌≡◌, refl}
 use mathlib.Core.List.{[], ◌∷◌, ◌++◌, map}
 use lib.ListN.{length}
-use Rattle.lists.specs.Lists.{if◌then◌else◌}
+use Rattle.lists.specs.Lists.{when◌then◌else◌}
 use Rattle.volume.specs.Views.{setRecord, setHeader, changedBy}
 use Rattle.volume.specs.Volumes.{Volume, view}
 use Rattle.volume.specs.Sound.{sound}
@@ -50,7 +50,7 @@ texts : tooLongText ∷ notSoundText ∷ []
 texts = refl
 
 -- "Above 65,536 bytes it prints `too long`", sound or not; at 65,536 it doesn't.
-longest : (v : Volume) → length v ≡ 65536 → printed v ≡ (if sound v then listing (view v) else notSoundText)
+longest : (v : Volume) → length v ≡ 65536 → printed v ≡ (when sound v then listing (view v) else notSoundText)
 unfolding printed
 longest v e = rw e
 

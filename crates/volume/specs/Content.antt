@@ -1,6 +1,6 @@
 -- Decided content, the paper's term, and the map that a file is left by recovery.
 use Rattle.std.specs.Prelude.{Bool, not, ◌&&◌, List, ℕ, eqb, get_or}
-use Rattle.lists.specs.Lists.{if◌then◌else◌}
+use Rattle.lists.specs.Lists.{when◌then◌else◌}
 use Rattle.sector.specs.Contents.{Bytes, isDecidedRecord}
 use Rattle.sector.specs.Entries.{redone}
 use Rattle.volume.specs.Views.{View}
@@ -12,7 +12,7 @@ isDecided a k = isDecidedRecord (a.records k)
 -- The map that recovery of k leaves to file f: redone "if the record is decided", else as it is. Commit redoes a record that
 -- was open when the call began, so whether to redo is told.
 abbrev pub mapAfter : (redo : Bool) → View → ℕ → ℕ → List ℕ
-mapAfter redo a k f = if redo then redone f (a.records k).entries (a.headers f).map else (a.headers f).map
+mapAfter redo a k f = when redo then redone f (a.records k).entries (a.headers f).map else (a.headers f).map
 
 -- File f's map, "changed by its entries in record k if the header names k and k is decided".
 abbrev pub decidedMap : View → ℕ → List ℕ
