@@ -12,13 +12,23 @@ enum Measure {
     Time,
 }
 
+/// Why spare may run more instructions than Rust where a volume has sixteen
+/// files.
+const TWO_A_FILE: &str = "the kit compiles the walk over the files to two instructions a file more than Rust";
+
 /// Calls that may be above Rust: the measure, the place, the call and the reason.
-const EXCEPTIONS: &[(Measure, &str, &str, &str)] = &[(
-    Measure::Time,
-    "small",
-    "format",
-    "each control sector is built in the working sector, and its copy waits for the bytes just written",
-)];
+const EXCEPTIONS: &[(Measure, &str, &str, &str)] = &[
+    (
+        Measure::Time,
+        "small",
+        "format",
+        "each control sector is built in the working sector, and its copy waits for the bytes just written",
+    ),
+    (Measure::Instructions, "largest", "spare, nobody holds it", TWO_A_FILE),
+    (Measure::Instructions, "largest", "spare, record open", TWO_A_FILE),
+    (Measure::Instructions, "largest", "spare, refused by 1", TWO_A_FILE),
+    (Measure::Instructions, "largest", "spare, refused by 6", TWO_A_FILE),
+];
 
 #[derive(Default)]
 pub struct Bars {
