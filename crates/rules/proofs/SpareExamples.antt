@@ -1,5 +1,6 @@
 -- Examples of the question how many slots are left: its answers on a sound volume, what it tests and in which order, and what it
 -- doesn't look at; and of the counts taken from a map. The checker evaluates both sides.
+-- What `sound` is made of is unfolded as well, so that a question which tested it would be refused by what it answers.
 use mathlib.Core.Path.{◌≡◌, refl}
 use mathlib.Core.List.{List, [], ◌∷◌, ◌++◌, map}
 use Prim.Native.Nat.{ℕ, ◌+◌, ◌≤◌}
@@ -38,19 +39,19 @@ answered m n = counted m ∷ counted n ∷ countRefused 6 ∷ countRefused 6 ∷
 
 -- Three slots are left of five, two of three.
 spares : asked tiny ≡ answered 3 2
-unfolding spare first tableSoundIn hasMark all view tableOf decodeTable decodeFiles sector newVolume newFiles repeated sectorAfter encodeTable fileBytes encodeRecord entryBytes encodeHeader padded
+unfolding spare first tableSoundIn sound lawful canonical encoded hasMark all view tableOf recordIn headerIn decodeTable decodeFiles decodeRecord decodeEntries decodeHeader sector newVolume newFiles repeated sectorAfter encodeTable fileBytes encodeRecord entryBytes encodeHeader padded
 spares = refl
 
 -- "answers that byte", right or wrong, and of that file.
 as-it-stands : map asked (with 2 3 7 ∷ with 8 3 255 ∷ with 2 3 0 ∷ []) ≡ answered 7 2 ∷ answered 3 255 ∷ answered 0 2 ∷ []
-unfolding spare first tableSoundIn hasMark all view tableOf decodeTable decodeFiles sector storeAt newVolume newFiles repeated sectorAfter encodeTable fileBytes encodeRecord entryBytes encodeHeader padded
+unfolding spare first tableSoundIn sound lawful canonical encoded hasMark all view tableOf recordIn headerIn decodeTable decodeFiles decodeRecord decodeEntries decodeHeader sector storeAt newVolume newFiles repeated sectorAfter encodeTable fileBytes encodeRecord entryBytes encodeHeader padded
 as-it-stands = refl
 
 -- It looks at nothing else: the record's mark, state and last byte, a header's holder, map, zero bytes and last byte, a slot and a
 -- later sector.
 others : map asked (with 1 0 0 ∷ with 1 2 3 ∷ with 1 255 1 ∷ with 2 2 9 ∷ with 2 8 1 ∷ with 2 9 99 ∷ with 2 4 1 ∷ with 2 255 1 ∷ with 8 8 3 ∷ with 4 0 1 ∷ with 12 0 1 ∷ [])
     ≡ replicate 11 (answered 3 2)
-unfolding spare first tableSoundIn hasMark all view tableOf decodeTable decodeFiles sector storeAt newVolume newFiles repeated sectorAfter encodeTable fileBytes encodeRecord entryBytes encodeHeader padded
+unfolding spare first tableSoundIn sound lawful canonical encoded hasMark all view tableOf recordIn headerIn decodeTable decodeFiles decodeRecord decodeEntries decodeHeader sector storeAt newVolume newFiles repeated sectorAfter encodeTable fileBytes encodeRecord entryBytes encodeHeader padded
 others = refl
 
 -- "then that header's mark by 1", each of its bytes, and no other header's: after 6, which is given for a file that there isn't.
@@ -60,7 +61,7 @@ marks-tested : map asked (with 2 0 0 ∷ with 2 1 0x49 ∷ with 8 0 0 ∷ with 8
     ∷ (counted 3 ∷ countRefused 1 ∷ countRefused 6 ∷ countRefused 6 ∷ [])
     ∷ (counted 3 ∷ countRefused 1 ∷ countRefused 6 ∷ countRefused 6 ∷ [])
     ∷ []
-unfolding spare first tableSoundIn hasMark all view tableOf decodeTable decodeFiles sector storeAt newVolume newFiles repeated sectorAfter encodeTable fileBytes encodeRecord entryBytes encodeHeader padded
+unfolding spare first tableSoundIn sound lawful canonical encoded hasMark all view tableOf recordIn headerIn decodeTable decodeFiles decodeRecord decodeEntries decodeHeader sector storeAt newVolume newFiles repeated sectorAfter encodeTable fileBytes encodeRecord entryBytes encodeHeader padded
 marks-tested = refl
 
 -- "sector 0 and the array's length by 1", whatever the file: the mark, N, T, F, a zero byte, a header's sector, P, and the last byte;
@@ -68,7 +69,7 @@ marks-tested = refl
 table-tested : map asked (with 0 0 0 ∷ with 0 2 12 ∷ with 0 4 0 ∷ with 0 5 0 ∷ with 0 6 1 ∷ with 0 8 3 ∷ with 0 10 0 ∷ with 0 255 1 ∷ [])
     ++ map asked ((tiny ++ (0 ∷ [])) ∷ take 3072 tiny ∷ [] ∷ [])
     ≡ replicate 11 (replicate 4 (countRefused 1))
-unfolding spare first tableSoundIn hasMark all view tableOf decodeTable decodeFiles sector storeAt newVolume newFiles repeated sectorAfter encodeTable fileBytes encodeRecord entryBytes encodeHeader padded
+unfolding spare first tableSoundIn sound lawful canonical encoded hasMark all view tableOf recordIn headerIn decodeTable decodeFiles decodeRecord decodeEntries decodeHeader sector storeAt newVolume newFiles repeated sectorAfter encodeTable fileBytes encodeRecord entryBytes encodeHeader padded
 table-tested = refl
 
 -- ------------------------------------------------------------------ the count taken from the whole map
