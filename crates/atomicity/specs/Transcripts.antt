@@ -3,19 +3,19 @@
 -- volume that is left is the model's.
 use Rattle.std.specs.Prelude.{◌≡◌, List, [], ◌∷◌, ℕ, length}
 use Rattle.interface.specs.declared.Session.{Session}
-use Rattle.interface.specs.Answers.{newSession, Answer, QueryAnswer, found, queryRefused, formatDone}
+use Rattle.interface.specs.Answers.{new_session, Answer, QueryAnswer, found, query_refused, format_done}
 use Rattle.sector.specs.Contents.{Bytes, Table}
 use Rattle.volume.specs.Volumes.{Volume}
-use Rattle.volume.specs.Format.{tableFor, format}
-use Rattle.rules.specs.Calls.{call, query, partOf, queryPart}
-use Rattle.atomicity.specs.Model.{Model, newModel, shown, modelCall}
-use Rattle.atomicity.specs.Runs.{Step, calls, asks, Configuration, started, given, stepped, ranOver}
+use Rattle.volume.specs.Format.{table_for, format}
+use Rattle.rules.specs.Calls.{call, query, part_of, query_part}
+use Rattle.atomicity.specs.Model.{Model, new_model, shown, model_call}
+use Rattle.atomicity.specs.Runs.{Step, calls, asks, Configuration, started, given, stepped, ran_over}
 use Rattle.atomicity.specs.AllOrNone.{PagesAgree}
 
 -- The answer to a step: a call's, or a question's.
 pub data StepAnswer : Type 0 where
-  ofCall : Answer → StepAnswer
-  ofQuery : QueryAnswer → StepAnswer
+  of_call : Answer → StepAnswer
+  of_query : QueryAnswer → StepAnswer
 
 -- What a step said: its answer, the session that is last handed back after it, and of a question that isn't refused the bytes of the
 -- sector answered and the part handed back. Else both are empty.
@@ -26,36 +26,36 @@ pub record Event : Type 0 where
   pub part : Bytes
 
 -- What a step says. A question leaves the session as it was.
-abbrev pub eventOf : Configuration → Step → Event
-eventOf r (calls crash c budget) =
+abbrev pub event_of : Configuration → Step → Event
+event_of r (calls crash c budget) =
     let x = call r.volume (given crash r.session) c budget in
-    record { answer = ofCall x.answer; session = x.session; bytes = []; part = [] }
-eventOf r (asks crash q) =
+    record { answer = of_call x.answer; session = x.session; bytes = []; part = [] }
+event_of r (asks crash q) =
     let s = given crash r.session in
     let x = query r.volume s q in
-    record { answer = ofQuery x; session = r.session; bytes = partOf r.volume x; part = queryPart r.volume s q }
+    record { answer = of_query x; session = r.session; bytes = part_of r.volume x; part = query_part r.volume s q }
 
 -- What the steps say, one after the other.
-abbrev pub eventsOf : Configuration → List Step → List Event
-eventsOf r [] = []
-eventsOf r (x ∷ xs) = eventOf r x ∷ eventsOf (stepped r x) xs
+abbrev pub events_of : Configuration → List Step → List Event
+events_of r [] = []
+events_of r (x ∷ xs) = event_of r x ∷ events_of (stepped r x) xs
 
 -- The model after a step: "fed each call's arguments, the volume apart, and its answer". A question changes nothing.
 abbrev pub fed : Model → Session → Step → StepAnswer → Model
-fed m s (calls crash c budget) (ofCall x) = modelCall m (given crash s) c x
-fed m s (calls crash c budget) (ofQuery x) = m
+fed m s (calls crash c budget) (of_call x) = model_call m (given crash s) c x
+fed m s (calls crash c budget) (of_query x) = m
 fed m s (asks crash q) x = m
 
 -- A question that isn't refused shows the page in the bytes of the sector answered and in the part handed back.
 abbrev pub ShowsPage : Bytes → StepAnswer → (bytes : Bytes) → (part : Bytes) → Type 0
-ShowsPage d (ofCall x) bytes part = ⊥
-ShowsPage d (ofQuery (found n)) bytes part = (bytes ≡ d) × (part ≡ d)
-ShowsPage d (ofQuery (queryRefused n)) bytes part = Unit {0}
+ShowsPage d (of_call x) bytes part = ⊥
+ShowsPage d (of_query (found n)) bytes part = (bytes ≡ d) × (part ≡ d)
+ShowsPage d (of_query (query_refused n)) bytes part = Unit {0}
 
 -- A call answers as a call does.
 abbrev pub AnswersCall : StepAnswer → Type 0
-AnswersCall (ofCall x) = Unit {0}
-AnswersCall (ofQuery x) = ⊥
+AnswersCall (of_call x) = Unit {0}
+AnswersCall (of_query x) = ⊥
 
 -- What is claimed of what a step said: of a question, that it shows what the model shows for it.
 abbrev pub EventAgrees : Model → Step → Event → Type 0
@@ -73,6 +73,6 @@ SaidAgrees t m s (x ∷ xs) (e ∷ es) v = EventAgrees m x e × SaidAgrees t (fe
 -- So it is for every volume as format left it, and every list of calls.
 abbrev pub TranscriptsAgree : Type 0
 TranscriptsAgree =
-    (v : Volume) (T : ℕ) (l : Bytes) → (format v T l).answer ≡ formatDone
+    (v : Volume) (T : ℕ) (l : Bytes) → (format v T l).answer ≡ format_done
     → (xs : List Step) → let r = started (format v T l).volume in
-    SaidAgrees (tableFor (length v) T l) newModel newSession xs (eventsOf r xs) (ranOver r xs).volume
+    SaidAgrees (table_for (length v) T l) new_model new_session xs (events_of r xs) (ran_over r xs).volume

@@ -3,8 +3,8 @@
 #![tactic(auto)]
 
 ghost use Rattle.std.specs.Prelude.{◌≡◌, not, ◌/◌, ◌%◌, ◌^◌, ◌<◌, length};
-ghost use Rattle.byteset.specs.Bits.{hasBit};
-ghost use Rattle.byteset.specs.Set.{hasByte, withByte, passesOver, LowestFailing};
+ghost use Rattle.byteset.specs.Bits.{has_bit};
+ghost use Rattle.byteset.specs.Set.{has_byte, with_byte, passes_over, LowestFailing};
 
 use sector::wide;
 
@@ -19,7 +19,7 @@ fn mask(x: usize) -> u64
 // Whether byte x is in the set.
 pub fn has(seen: &[u64; 4], x: u8) -> bool
     requires { length seen.now ≡ 4 }
-    ensures { result ≡ hasByte seen.now x }
+    ensures { result ≡ has_byte seen.now x }
 {
     let n = wide(x);
     let i = n / 64;
@@ -29,7 +29,7 @@ pub fn has(seen: &[u64; 4], x: u8) -> bool
 // Puts byte x into the set.
 pub fn add(seen: &mut [u64; 4], x: u8)
     requires { length seen.old ≡ 4 }
-    ensures { (seen.new ≡ withByte seen.old x) × (length seen.new ≡ 4) }
+    ensures { (seen.new ≡ with_byte seen.old x) × (length seen.new ≡ 4) }
 {
     let n = wide(x);
     let i = n / 64;
@@ -41,7 +41,7 @@ pub fn add(seen: &mut [u64; 4], x: u8)
 // another byte put in with it.
 pub fn insert(seen: &mut [u64; 4], x: u8) -> bool
     requires { length seen.old ≡ 4 }
-    ensures { (result ≡ not (hasByte seen.old x)) × (seen.new ≡ withByte seen.old x) × (length seen.new ≡ 4) }
+    ensures { (result ≡ not (has_byte seen.old x)) × (seen.new ≡ with_byte seen.old x) × (length seen.new ≡ 4) }
 {
     let n = wide(x);
     let i = n / 64;
@@ -55,7 +55,7 @@ pub fn insert(seen: &mut [u64; 4], x: u8) -> bool
 // (`must-fail/numbers_share_a_bit`).
 pub fn insert_number(seen: &mut [u64; 16], x: usize) -> bool
     requires { (length seen.old ≡ 16) × (x < 1024) }
-    ensures { (result ≡ not (hasByte seen.old x)) × (seen.new ≡ withByte seen.old x) × (length seen.new ≡ 16) }
+    ensures { (result ≡ not (has_byte seen.old x)) × (seen.new ≡ with_byte seen.old x) × (length seen.new ≡ 16) }
 {
     let i = x / 64;
     let m = mask(x);
@@ -66,7 +66,7 @@ pub fn insert_number(seen: &mut [u64; 16], x: usize) -> bool
 
 // How many bits of the word are set below its lowest clear bit: 64 where none is clear.
 fn low_ones(w: u64) -> u8
-    ensures { LowestFailing (hasBit w) 64 result }
+    ensures { LowestFailing (has_bit w) 64 result }
 {
     u64::trailing_zeros(!w) as u8
 }
@@ -76,7 +76,7 @@ fn low_ones(w: u64) -> u8
 // in a later word (`must-fail/start_in_a_later_word`).
 pub fn lowest_missing(seen: &[u64; 4], start: usize, n: u8) -> u8
     requires { length seen.now ≡ 4 }
-    ensures { LowestFailing (passesOver start seen.now) n result }
+    ensures { LowestFailing (passes_over start seen.now) n result }
 {
     let mut before = mask(start) - 1;
     let mut i = start / 64;

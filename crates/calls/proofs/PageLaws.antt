@@ -4,30 +4,30 @@ use Prim.Native.Nat.{◌+◌, ◌*◌, ◌≤◌}
 use native.Mathlib.Omega.{arith}
 use lib.ListN.{length}
 use Rattle.interface.specs.declared.Session.{Session}
-use Rattle.interface.specs.Answers.{QueryAnswer, found, queryRefused}
+use Rattle.interface.specs.Answers.{QueryAnswer, found, query_refused}
 use Rattle.volume.specs.Volumes.{Volume, view}
-use Rattle.volume.proofs.ReadLaws.{few-sectors, slot-inside}
-use Rattle.rules.specs.Plans.{Query, readPage, lookPage, entryFor, slotFor}
-use Rattle.rules.specs.Content.{decidedSlot}
+use Rattle.volume.proofs.ReadLaws.{few_sectors, slot_inside}
+use Rattle.rules.specs.Plans.{Query, read_page, look_page, entry_for, slot_for}
+use Rattle.rules.specs.Content.{decided_slot}
 use Rattle.rules.specs.Calls.{query}
-use Rattle.rules.proofs.ContentLaws.{decided-below}
-use Rattle.rules.proofs.AllowedLaws.{slot-below}
-use Rattle.rules.proofs.CallLaws.{query-case}
+use Rattle.rules.proofs.ContentLaws.{decided_below}
+use Rattle.rules.proofs.AllowedLaws.{slot_below}
+use Rattle.rules.proofs.CallLaws.{query_case}
 
 -- What the answer says of the sector.
 abbrev pub Inside : Volume → QueryAnswer → Type 0
 Inside v (found n) = (256 * n + 256 ≤ length v) × (n ≤ 65536)
-Inside v (queryRefused n) = Unit {0}
+Inside v (query_refused n) = Unit {0}
 
-pub query-inside : (v : Volume) (s : Session) (q : Query) → Inside v (query v s q)
-query-inside v s (readPage k f p) = query-case (Inside v) v s (readPage k f p) (λ n e. tt)
+pub query_inside : (v : Volume) (s : Session) (q : Query) → Inside v (query v s q)
+query_inside v s (read_page k f p) = query_case (Inside v) v s (read_page k f p) (λ n e. tt)
     (λ h w e.
     let formed = h.formed in
-    let below = slot-below w (entryFor (view v) k f p) refl in
-    let inside = slot-inside v formed.tabled f (slotFor (view v) f p (entryFor (view v) k f p)) w.file below in
-    (inside, omega (arith, inside, formed.tabled.shaped.size, few-sectors v formed.tabled)))
-query-inside v s (lookPage f p) = query-case (Inside v) v s (lookPage f p) (λ n e. tt)
+    let below = slot_below w (entry_for (view v) k f p) refl in
+    let inside = slot_inside v formed.tabled f (slot_for (view v) f p (entry_for (view v) k f p)) w.file below in
+    (inside, omega (arith, inside, formed.tabled.shaped.size, few_sectors v formed.tabled)))
+query_inside v s (look_page f p) = query_case (Inside v) v s (look_page f p) (λ n e. tt)
     (λ h w e.
     let formed = h.formed in
-    let inside = slot-inside v formed.tabled f (decidedSlot (view v) f p) w.file (decided-below w.laws f p w.file w.page) in
-    (inside, omega (arith, inside, formed.tabled.shaped.size, few-sectors v formed.tabled)))
+    let inside = slot_inside v formed.tabled f (decided_slot (view v) f p) w.file (decided_below w.laws f p w.file w.page) in
+    (inside, omega (arith, inside, formed.tabled.shaped.size, few_sectors v formed.tabled)))

@@ -8,32 +8,32 @@ use lib.ListN.{length}
 use Rattle.interface.specs.declared.Session.{Session}
 use Rattle.lists.specs.Lists.{first}
 use Rattle.sector.specs.Contents.{Bytes, Entry}
-use Rattle.volume.specs.Places.{IsFile, fileAt}
+use Rattle.volume.specs.Places.{IsFile, file_at}
 use Rattle.volume.specs.Volumes.{Volume, view}
 use Rattle.volume.specs.Sound.{sound}
-use Rattle.rules.specs.Plans.{entryFor, chosen, write}
+use Rattle.rules.specs.Plans.{entry_for, chosen, write}
 use Rattle.rules.specs.Refusals.{tests}
 use Rattle.rules.proofs.CallLaws.{passed}
 use Rattle.transaction.specs.Tested.{NewPage}
-use Rattle.transaction.proofs.TestedLaws.{old-slot, new-page}
-use Rattle.checks.specs.Writes.{WriteAnswer, refusedBy, again, new, answerBy}
+use Rattle.transaction.proofs.TestedLaws.{old_slot, new_page}
+use Rattle.checks.specs.Writes.{WriteAnswer, refused_by, again, new, answer_by}
 
 -- ------------------------------------------------------------------ the three answers
 -- Which answer it is.
 abbrev kind : WriteAnswer → ℕ
-kind (refusedBy n) = 0
+kind (refused_by n) = 0
 kind (again n) = 1
 kind (new n) = 2
 
 abbrev number : WriteAnswer → ℕ
-number (refusedBy n) = n
+number (refused_by n) = n
 number (again n) = n
 number (new n) = n
 
-pub refused-by : (m n : ℕ) (o : Option Entry) (r : ℕ) → refusedBy m ≡ answerBy n o r → m ≡ n
-refused-by m zero (some e) r h = omega (arith, ap kind h)
-refused-by m zero none r h = omega (arith, ap kind h)
-refused-by m (suc n) o r h = ap number h
+pub refused_by_lem : (m n : ℕ) (o : Option Entry) (r : ℕ) → refused_by m ≡ answer_by n o r → m ≡ n
+refused_by_lem m zero (some e) r h = omega (arith, ap kind h)
+refused_by_lem m zero none r h = omega (arith, ap kind h)
+refused_by_lem m (suc n) o r h = ap number h
 
 -- The page has an entry, with this slot.
 pub record AgainAt (n : ℕ) (o : Option Entry) (q : ℕ) : Type 0 where
@@ -42,10 +42,10 @@ pub record AgainAt (n : ℕ) (o : Option Entry) (q : ℕ) : Type 0 where
   pub found : o ≡ some entry
   pub slot : entry.slot ≡ q
 
-pub again-at : (q n : ℕ) (o : Option Entry) (r : ℕ) → again q ≡ answerBy n o r → AgainAt n o q
-again-at q zero (some e) r h = record { accepted = refl; entry = e; found = refl; slot = sym (ap number h) }
-again-at q zero none r h = absurd (omega (arith, ap kind h))
-again-at q (suc n) o r h = absurd (omega (arith, ap kind h))
+pub again_at : (q n : ℕ) (o : Option Entry) (r : ℕ) → again q ≡ answer_by n o r → AgainAt n o q
+again_at q zero (some e) r h = record { accepted = refl; entry = e; found = refl; slot = sym (ap number h) }
+again_at q zero none r h = absurd (omega (arith, ap kind h))
+again_at q (suc n) o r h = absurd (omega (arith, ap kind h))
 
 -- The page has none, and a new one takes this slot.
 pub record NewAt (n : ℕ) (o : Option Entry) (r q : ℕ) : Type 0 where
@@ -53,19 +53,19 @@ pub record NewAt (n : ℕ) (o : Option Entry) (r q : ℕ) : Type 0 where
   pub absent : o ≡ none
   pub slot : q ≡ r
 
-pub new-at : (q n : ℕ) (o : Option Entry) (r : ℕ) → new q ≡ answerBy n o r → NewAt n o r q
-new-at q zero none r h = record { accepted = refl; absent = refl; slot = ap number h }
-new-at q zero (some e) r h = absurd (omega (arith, ap kind h))
-new-at q (suc n) o r h = absurd (omega (arith, ap kind h))
+pub new_at : (q n : ℕ) (o : Option Entry) (r : ℕ) → new q ≡ answer_by n o r → NewAt n o r q
+new_at q zero none r h = record { accepted = refl; absent = refl; slot = ap number h }
+new_at q zero (some e) r h = absurd (omega (arith, ap kind h))
+new_at q (suc n) o r h = absurd (omega (arith, ap kind h))
 
 -- ------------------------------------------------------------------ what the stores rely on
 module _ (v : Volume) (s : Session) (k f p : ℕ) (d : Bytes) (e : 0 ≡ first (tests (sound v) (view v) s (write k f p d))) where
-  pub writes-file : IsFile (view v).table f × (length d ≡ 256)
-  writes-file = let w = (passed v s (write k f p d) (sym e)).allowed in (w.place.file, w.size)
+  pub writes_file : IsFile (view v).table f × (length d ≡ 256)
+  writes_file = let w = (passed v s (write k f p d) (sym e)).allowed in (w.place.file, w.size)
 
-  pub again-below : (x : Entry) → entryFor (view v) k f p ≡ some x → x.slot < (fileAt (view v).table f).slots
-  again-below x found = old-slot (passed v s (write k f p d) (sym e)).allowed x found
+  pub again_below : (x : Entry) → entry_for (view v) k f p ≡ some x → x.slot < (file_at (view v).table f).slots
+  again_below x found = old_slot (passed v s (write k f p d) (sym e)).allowed x found
 
-  pub new-below : (q : ℕ) → entryFor (view v) k f p ≡ none → q ≡ chosen (view v) k f p → NewPage (view v) k f p q
-  new-below q absent slot =
-      subst (λ (r : ℕ). NewPage (view v) k f p r) (sym slot) (new-page (passed v s (write k f p d) (sym e)).allowed absent)
+  pub new_below : (q : ℕ) → entry_for (view v) k f p ≡ none → q ≡ chosen (view v) k f p → NewPage (view v) k f p q
+  new_below q absent slot =
+      subst (λ (r : ℕ). NewPage (view v) k f p r) (sym slot) (new_page (passed v s (write k f p d) (sym e)).allowed absent)

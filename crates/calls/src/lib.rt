@@ -5,15 +5,15 @@
 mod reply;
 
 ghost use Rattle.std.specs.Prelude.{◌≡◌, true, ◌≤◌};
-ghost use Rattle.interface.specs.Answers.{queryAnswerOf, countAnswerOf};
+ghost use Rattle.interface.specs.Answers.{query_answer_of, count_answer_of};
 ghost use Rattle.sector.specs.Contents.{Table};
-ghost use Rattle.volume.specs.Places.{IsFile, slotPlace, sectorOf};
+ghost use Rattle.volume.specs.Places.{IsFile, slot_place, sector_of};
 ghost use Rattle.volume.specs.Views.{View};
 ghost use Rattle.volume.specs.Volumes.{view};
 ghost use Rattle.volume.specs.Sound.{sound};
 ghost use Rattle.volume.specs.WellFormed.{WellFormed};
-ghost use Rattle.rules.specs.Plans.{openFile, openRead, readPage, sessionAfter};
-ghost use Rattle.rules.specs.Calls.{call, query, queryPart, lookPart};
+ghost use Rattle.rules.specs.Plans.{open_file, open_read, read_page, session_after};
+ghost use Rattle.rules.specs.Calls.{call, query, query_part, look_part};
 ghost use Rattle.rules.specs.Spare;
 ghost use Rattle.calls.specs.Replies.{replied};
 
@@ -39,7 +39,7 @@ pub fn begin(volume: &mut [u8], session: Session, client: u8, budget: u8) -> Rep
 // Ruled out: recovery of that file alone (`rules/must-fail/opened_file_only`); the map from before the recovery stored
 // (`rules/must-fail/map_before_recovery`); the reading hold kept (`rules/must-fail/upgrade_keeps_hold`).
 pub fn open(volume: &mut [u8], session: Session, client: u8, file: u8, budget: u8) -> Reply
-    ensures { replied result volume.new ≡ call volume.old session (openFile client file) budget }
+    ensures { replied result volume.new ≡ call volume.old session (open_file client file) budget }
 {
     match checks::check_open(volume, session, client, file) {
         Verdict::Refused(r) => refuse(session, r),
@@ -53,7 +53,7 @@ pub fn open(volume: &mut [u8], session: Session, client: u8, file: u8, budget: u
 // The session with client k's reading hold of file f, unless k holds the file already.
 fn with_hold(v: &[u8], s: Session, k: u8, f: u8) -> Session
     requires { (sound v.now ≡ true) × (1 ≤ k) × (k ≤ 4) × IsFile (view v.now).table f }
-    ensures { result ≡ sessionAfter (view v.now) s (openRead k f) }
+    ensures { result ≡ session_after (view v.now) s (open_read k f) }
 {
     if checks::holds_either(v, s, k, f) {
         return s;
@@ -65,7 +65,7 @@ fn with_hold(v: &[u8], s: Session, k: u8, f: u8) -> Session
 // (`rules/must-fail/read_without_recovery`), or one beyond the budget (`must-fail/read_budget_ignored`); a hold noted beside a
 // writing one (`rules/must-fail/hold_beside_writing`).
 pub fn open_read(volume: &mut [u8], session: Session, client: u8, file: u8, budget: u8) -> Reply
-    ensures { replied result volume.new ≡ call volume.old session (openRead client file) budget }
+    ensures { replied result volume.new ≡ call volume.old session (open_read client file) budget }
 {
     match checks::check_open_read(volume, session, client, file) {
         Verdict::Refused(r) => refuse(session, r),
@@ -80,7 +80,7 @@ pub fn open_read(volume: &mut [u8], session: Session, client: u8, file: u8, budg
 // The sector that has the page as the client sees it. Ruled out: an answer by the map where the record has the
 // page (`slots/must-fail/read_by_map_alone`); an answer for a file that the client holds neither way.
 pub fn read(volume: &[u8], session: Session, client: u8, file: u8, page: u8) -> QueryOutcome
-    ensures { queryAnswerOf result ≡ query volume.now session (readPage client file page) }
+    ensures { query_answer_of result ≡ query volume.now session (read_page client file page) }
 {
     match checks::check_read(volume, session, client, file, page) {
         Verdict::Refused(r) => QueryOutcome::Refused(r),
@@ -94,7 +94,7 @@ pub fn read(volume: &[u8], session: Session, client: u8, file: u8, page: u8) -> 
 // The sector of slot r of file f.
 fn slot_sector(v: &[u8], f: u8, r: u8) -> u16
     requires { WellFormed v.now × IsFile (view v.now).table f }
-    ensures { result ≡ sectorOf (view v.now).table (slotPlace f r) }
+    ensures { result ≡ sector_of (view v.now).table (slot_place f r) }
 {
     let h = volume::header_sector(v, f);
     (h + 1 + sector::wide(r)) as u16
@@ -104,7 +104,7 @@ fn slot_sector(v: &[u8], f: u8, r: u8) -> u16
 // page's part (`must-fail/page_of_another`); anything but an empty part on a refusal
 // (`rules/must-fail/part_of_a_refused_read`).
 pub fn page(volume: &[u8], session: Session, client: u8, file: u8, page: u8) -> &[u8]
-    ensures { result.now ≡ queryPart volume.now session (readPage client file page) }
+    ensures { result.now ≡ query_part volume.now session (read_page client file page) }
 {
     match read(volume, session, client, file, page) {
         QueryOutcome::Refused(_) => &volume[0..0],
@@ -117,7 +117,7 @@ pub fn page(volume: &[u8], session: Session, client: u8, file: u8, page: u8) -> 
 // (`slots/must-fail/look_into_an_open_record`); a refusal because a client holds the file
 // (`rules/must-fail/look_blocked_by_client`).
 pub fn look(volume: &[u8], file: u8, page: u8) -> QueryOutcome
-    ensures { queryAnswerOf result ≡ Rattle.rules.specs.Calls.look volume.now file page }
+    ensures { query_answer_of result ≡ Rattle.rules.specs.Calls.look volume.now file page }
 {
     match checks::check_look(volume, file, page) {
         Verdict::Refused(r) => QueryOutcome::Refused(r),
@@ -131,7 +131,7 @@ pub fn look(volume: &[u8], file: u8, page: u8) -> QueryOutcome
 // The page itself: the part of the volume that `look` names, or an empty part where it refuses. Ruled out: another page's
 // part (`must-fail/look_part_of_another`); anything but an empty part on a refusal.
 pub fn look_part(volume: &[u8], file: u8, page: u8) -> &[u8]
-    ensures { result.now ≡ lookPart volume.now file page }
+    ensures { result.now ≡ look_part volume.now file page }
 {
     match look(volume, file, page) {
         QueryOutcome::Refused(_) => &volume[0..0],
@@ -143,7 +143,7 @@ pub fn look_part(volume: &[u8], file: u8, page: u8) -> &[u8]
 // counted (`rules/must-fail/spare_answers_all`), or another byte of the header answered (`sector/must-fail/holder_as_count`);
 // a refusal because of a record or another header (`rules/must-fail/spare_tests_the_volume`).
 pub fn spare(volume: &[u8], file: u8) -> CountOutcome
-    ensures { countAnswerOf result ≡ Spare.spare volume.now file }
+    ensures { count_answer_of result ≡ Spare.spare volume.now file }
 {
     match checks::check_spare(volume, file) {
         Verdict::Refused(r) => CountOutcome::Refused(r),

@@ -4,25 +4,25 @@ use mathlib.Core.Path.{◌≡◌, refl}
 use mathlib.Core.Bool.{true, false}
 use mathlib.Core.List.{[], ◌∷◌, map, ◌++◌}
 use Prim.Native.Nat.{ℕ}
-use Rattle.interface.specs.Answers.{newSession, done, crashed, refused, found, queryRefused, counted, countRefused, formatDone, formatRefused}
+use Rattle.interface.specs.Answers.{new_session, done, crashed, refused, found, query_refused, counted, count_refused, format_done, format_refused}
 use Rattle.lists.specs.Lists.{all}
-use Rattle.volume.specs.Volumes.{Volume, view, tableOf}
+use Rattle.volume.specs.Volumes.{Volume, view, table_of}
 use Rattle.volume.specs.Lawful.{lawful}
 use Rattle.volume.specs.Sound.{canonical, sound}
 use Rattle.sector.specs.Sectors.{sector}
-use Rattle.sector.specs.Decoding.{decodeTable, decodeFiles}
-use Rattle.rules.specs.Plans.{Call, begin, Query, readPage}
+use Rattle.sector.specs.Decoding.{decode_table, decode_files}
+use Rattle.rules.specs.Plans.{Call, begin, Query, read_page}
 use Rattle.rules.specs.Calls.{call, query}
 use Rattle.capi.specs.declared.VolSession.{VolSession}
 use Rattle.capi.specs.declared.VolAnswer.{VolAnswer}
-use Rattle.capi.specs.Passing.{sessionFrom, passedSession, hasOtherBits, passedAnswer, passedQuery, passedCount, passedFormat, replyWith, passedAfter, calledBy, askedBy}
+use Rattle.capi.specs.Passing.{session_from, passed_session, has_other_bits, passed_answer, passed_query, passed_count, passed_format, reply_with, passed_after, called_by, asked_by}
 
 abbrev answer : ℕ → ℕ → VolAnswer
 answer kind number = record { kind = kind; number = number }
 
 -- 0 done, 1 cut, 2 refused, 3 a sector, 4 a count.
-answers : map passedAnswer (done 4 ∷ crashed 3 ∷ refused 16 ∷ []) ++ map passedQuery (found 300 ∷ queryRefused 8 ∷ [])
-    ++ map passedCount (counted 239 ∷ countRefused 6 ∷ []) ++ map passedFormat (formatDone ∷ formatRefused 15 ∷ [])
+answers : map passed_answer (done 4 ∷ crashed 3 ∷ refused 16 ∷ []) ++ map passed_query (found 300 ∷ query_refused 8 ∷ [])
+    ++ map passed_count (counted 239 ∷ count_refused 6 ∷ []) ++ map passed_format (format_done ∷ format_refused 15 ∷ [])
     ≡ answer 0 4 ∷ answer 1 3 ∷ answer 2 16 ∷ answer 3 300 ∷ answer 2 8 ∷ answer 4 239 ∷ answer 2 6 ∷ answer 0 0 ∷ answer 2 15 ∷ []
 answers = refl
 
@@ -30,49 +30,49 @@ answers = refl
 abbrev given : ℕ → VolSession
 given bits = record { active = bits; reading = 0 ∷ 32769 ∷ 0 ∷ 2 ∷ [] }
 
-session-given : sessionFrom (given 10) ≡ record { active = false ∷ true ∷ false ∷ true ∷ []; reading = 0 ∷ 32769 ∷ 0 ∷ 2 ∷ [] }
-session-given = refl
+session_given : session_from (given 10) ≡ record { active = false ∷ true ∷ false ∷ true ∷ []; reading = 0 ∷ 32769 ∷ 0 ∷ 2 ∷ [] }
+session_given = refl
 
 -- And handed back. All zero is a new session.
-sessions-passed : map passedSession (sessionFrom (given 10) ∷ newSession ∷ []) ≡ given 10 ∷ record { active = 0; reading = 0 ∷ 0 ∷ 0 ∷ 0 ∷ [] } ∷ []
-sessions-passed = refl
+sessions_passed : map passed_session (session_from (given 10) ∷ new_session ∷ []) ≡ given 10 ∷ record { active = 0; reading = 0 ∷ 0 ∷ 0 ∷ 0 ∷ [] } ∷ []
+sessions_passed = refl
 
 -- 15 has four marks, 16 another bit.
-other-bits : map (λ b. hasOtherBits (given b)) (0 ∷ 15 ∷ 16 ∷ 255 ∷ []) ≡ false ∷ false ∷ true ∷ true ∷ []
-other-bits = refl
+other_bits : map (λ b. has_other_bits (given b)) (0 ∷ 15 ∷ 16 ∷ 255 ∷ []) ≡ false ∷ false ∷ true ∷ true ∷ []
+other_bits = refl
 
 -- A reply has the session beside kind and number.
-reply : replyWith (given 2) (answer 1 7) ≡ record { session = given 2; kind = 1; number = 7 }
+reply : reply_with (given 2) (answer 1 7) ≡ record { session = given 2; kind = 1; number = 7 }
 reply = refl
 
-after : (v : Volume) → passedAfter (record { answer = crashed 7; session = sessionFrom (given 2); volume = v })
+after : (v : Volume) → passed_after (record { answer = crashed 7; session = session_from (given 2); volume = v })
     ≡ record { reply = record { session = given 2; kind = 1; number = 7 }; volume = v }
 after v = refl
 
 -- On an empty array, which isn't sound: 1, and the session given comes back, other bits too; a question hands back none.
-not-sound : calledBy [] (given 26) (begin 1) 255 ≡ record { reply = record { session = given 26; kind = 2; number = 1 }; volume = [] }
-unfolding calledBy sound canonical lawful all view tableOf decodeTable decodeFiles sector
-not-sound = refl
+not_sound_lem : called_by [] (given 26) (begin 1) 255 ≡ record { reply = record { session = given 26; kind = 2; number = 1 }; volume = [] }
+unfolding called_by sound canonical lawful all view table_of decode_table decode_files sector
+not_sound_lem = refl
 
-not-sound-query : askedBy [] (given 26) (readPage 1 1 0) ≡ answer 2 1
-unfolding askedBy sound canonical lawful all view tableOf decodeTable decodeFiles sector
-not-sound-query = refl
+not_sound_query : asked_by [] (given 26) (read_page 1 1 0) ≡ answer 2 1
+unfolding asked_by sound canonical lawful all view table_of decode_table decode_files sector
+not_sound_query = refl
 
 -- On a sound volume: 2.
-other-bits-refused : (v : Volume) → sound v ≡ true
-    → calledBy v (given 16) (begin 1) 255 ≡ record { reply = record { session = given 16; kind = 2; number = 2 }; volume = v }
-unfolding calledBy
-other-bits-refused v e = rw e
+other_bits_refused_lem : (v : Volume) → sound v ≡ true
+    → called_by v (given 16) (begin 1) 255 ≡ record { reply = record { session = given 16; kind = 2; number = 2 }; volume = v }
+unfolding called_by
+other_bits_refused_lem v e = rw e
 
-other-bits-unanswered : (v : Volume) → sound v ≡ true → askedBy v (given 16) (readPage 1 1 0) ≡ answer 2 2
-unfolding askedBy
-other-bits-unanswered v e = rw e
+other_bits_unanswered : (v : Volume) → sound v ≡ true → asked_by v (given 16) (read_page 1 1 0) ≡ answer 2 2
+unfolding asked_by
+other_bits_unanswered v e = rw e
 
 -- Without other bits it is the call, with its arguments and its budget, and the question with its arguments.
-four-marks : (v : Volume) (x : Call) (budget : ℕ) → calledBy v (given 15) x budget ≡ passedAfter (call v (sessionFrom (given 15)) x budget)
-unfolding calledBy
-four-marks v x budget = refl
+four_marks : (v : Volume) (x : Call) (budget : ℕ) → called_by v (given 15) x budget ≡ passed_after (call v (session_from (given 15)) x budget)
+unfolding called_by
+four_marks v x budget = refl
 
-four-marks-query : (v : Volume) (q : Query) → askedBy v (given 15) q ≡ passedQuery (query v (sessionFrom (given 15)) q)
-unfolding askedBy
-four-marks-query v q = refl
+four_marks_query : (v : Volume) (q : Query) → asked_by v (given 15) q ≡ passed_query (query v (session_from (given 15)) q)
+unfolding asked_by
+four_marks_query v q = refl

@@ -2,7 +2,7 @@
 -- the number beside it is that of the stores made, of the refusal or of the sector, or the count.
 use Rattle.std.specs.Prelude.{Bool, true, false, ℕ, ltb}
 use Rattle.interface.specs.declared.Session.{Session}
-use Rattle.interface.specs.Answers.{sessionOf, marksByte, Answer, done, crashed, refused, QueryAnswer, found, queryRefused, CountAnswer, counted, countRefused, FormatAnswer, formatDone, formatRefused}
+use Rattle.interface.specs.Answers.{session_of, marks_byte, Answer, done, crashed, refused, QueryAnswer, found, query_refused, CountAnswer, counted, count_refused, FormatAnswer, format_done, format_refused}
 use Rattle.lists.specs.Lists.{when◌then◌else◌}
 use Rattle.volume.specs.Volumes.{Volume}
 use Rattle.volume.specs.Sound.{sound}
@@ -15,47 +15,47 @@ use Rattle.capi.specs.declared.VolAnswer.{VolAnswer}
 
 -- ------------------------------------------------------------------ sessions
 -- The session that C gives: bit k − 1 of `active` is client k's mark, and the words of reading holds are its own.
-abbrev pub sessionFrom : VolSession → Session
-sessionFrom c = sessionOf c.active c.reading
+abbrev pub session_from : VolSession → Session
+session_from c = session_of c.active c.reading
 
 -- A session as C gets it.
-abbrev pub passedSession : Session → VolSession
-passedSession s = record { active = marksByte s; reading = s.reading }
+abbrev pub passed_session : Session → VolSession
+passed_session s = record { active = marks_byte s; reading = s.reading }
 
 -- A bit above the fourth is no client's mark.
-abbrev pub hasOtherBits : VolSession → Bool
-hasOtherBits c = ltb 15 c.active
+abbrev pub has_other_bits : VolSession → Bool
+has_other_bits c = ltb 15 c.active
 
 -- ------------------------------------------------------------------ answers
 -- A call's answer.
-abbrev pub passedAnswer : Answer → VolAnswer
-passedAnswer (done n) = record { kind = 0; number = n }
-passedAnswer (crashed n) = record { kind = 1; number = n }
-passedAnswer (refused n) = record { kind = 2; number = n }
+abbrev pub passed_answer : Answer → VolAnswer
+passed_answer (done n) = record { kind = 0; number = n }
+passed_answer (crashed n) = record { kind = 1; number = n }
+passed_answer (refused n) = record { kind = 2; number = n }
 
 -- A question's.
-abbrev pub passedQuery : QueryAnswer → VolAnswer
-passedQuery (found n) = record { kind = 3; number = n }
-passedQuery (queryRefused n) = record { kind = 2; number = n }
+abbrev pub passed_query : QueryAnswer → VolAnswer
+passed_query (found n) = record { kind = 3; number = n }
+passed_query (query_refused n) = record { kind = 2; number = n }
 
 -- A count's, M-104.
-abbrev pub passedCount : CountAnswer → VolAnswer
-passedCount (counted n) = record { kind = 4; number = n }
-passedCount (countRefused n) = record { kind = 2; number = n }
+abbrev pub passed_count : CountAnswer → VolAnswer
+passed_count (counted n) = record { kind = 4; number = n }
+passed_count (count_refused n) = record { kind = 2; number = n }
 
 -- Format's, "done without a count".
-abbrev pub passedFormat : FormatAnswer → VolAnswer
-passedFormat formatDone = record { kind = 0; number = 0 }
-passedFormat (formatRefused n) = record { kind = 2; number = n }
+abbrev pub passed_format : FormatAnswer → VolAnswer
+passed_format format_done = record { kind = 0; number = 0 }
+passed_format (format_refused n) = record { kind = 2; number = n }
 
 -- A session with other bits fits no volume: refusal 2, or 1 if the volume isn't sound, since that is tested first.
-abbrev pub otherBitsRefused : Volume → VolAnswer
-otherBitsRefused v = record { kind = 2; number = when sound v then 2 else 1 }
+abbrev pub other_bits_refused : Volume → VolAnswer
+other_bits_refused v = record { kind = 2; number = when sound v then 2 else 1 }
 
 -- ------------------------------------------------------------------ replies
 -- An answer with a session.
-abbrev pub replyWith : VolSession → VolAnswer → VolReply
-replyWith c x = record { session = c; kind = x.kind; number = x.number }
+abbrev pub reply_with : VolSession → VolAnswer → VolReply
+reply_with c x = record { session = c; kind = x.kind; number = x.number }
 
 -- What a call hands back to C, and the volume that it leaves.
 pub record Passed : Type 0 where
@@ -63,18 +63,18 @@ pub record Passed : Type 0 where
   pub volume : Volume
 
 -- What a call answers and leaves, as C gets it.
-abbrev pub passedAfter : After → Passed
-passedAfter a = record { reply = replyWith (passedSession a.session) (passedAnswer a.answer); volume = a.volume }
+abbrev pub passed_after : After → Passed
+passed_after a = record { reply = reply_with (passed_session a.session) (passed_answer a.answer); volume = a.volume }
 
 -- A call given a session by C. One with other bits comes back as it was given, and every byte of the volume is kept.
-unfoldable pub calledBy : Volume → VolSession → Call → (budget : ℕ) → Passed
-calledBy v c x budget =
-    when hasOtherBits c then record { reply = replyWith c (otherBitsRefused v); volume = v }
-    else passedAfter (call v (sessionFrom c) x budget)
+unfoldable pub called_by : Volume → VolSession → Call → (budget : ℕ) → Passed
+called_by v c x budget =
+    when has_other_bits c then record { reply = reply_with c (other_bits_refused v); volume = v }
+    else passed_after (call v (session_from c) x budget)
 
 -- A question given a session by C.
-unfoldable pub askedBy : Volume → VolSession → Query → VolAnswer
-askedBy v c q = when hasOtherBits c then otherBitsRefused v else passedQuery (query v (sessionFrom c) q)
+unfoldable pub asked_by : Volume → VolSession → Query → VolAnswer
+asked_by v c q = when has_other_bits c then other_bits_refused v else passed_query (query v (session_from c) q)
 
 -- ------------------------------------------------------------------ numbers alone
 -- 1 for true, 0 for false.
@@ -83,7 +83,7 @@ truth true = 1
 truth false = 0
 
 -- The length of a listing; 0 if none was written.
-abbrev pub listedLength : ListOutcome → ℕ
-listedLength (ListOutcome.Listed n) = n
-listedLength ListOutcome.NotSound = 0
-listedLength ListOutcome.NoRoom = 0
+abbrev pub listed_length : ListOutcome → ℕ
+listed_length (ListOutcome.Listed n) = n
+listed_length ListOutcome.NotSound = 0
+listed_length ListOutcome.NoRoom = 0

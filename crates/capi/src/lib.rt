@@ -1,6 +1,6 @@
 // The volume for C and Rust: `include/volume.h` declares these functions and structs. A slice is a pointer and a count.
 // Sessions, replies and answers are structs by value. Ruled out of every call that takes a session: a fifth mark passed over
-// (`must-fail/fifth_bit_accepted`), and another session than the one given handed back by a refusal (`PassLaws.refused-given`);
+// (`must-fail/fifth_bit_accepted`), and another session than the one given handed back by a refusal (`PassLaws.refused_given`);
 // of every answer, one kind taken for another (`must-fail/sector_as_refusal`).
 #![tactic(auto)]
 
@@ -9,11 +9,11 @@ mod pass;
 ghost use Rattle.std.specs.Prelude.{◌≡◌};
 ghost use Rattle.volume.specs.Sound.{sound};
 ghost use Rattle.volume.specs.Format.{Formatted};
-ghost use Rattle.rules.specs.Plans.{openFile, openRead, readPage};
+ghost use Rattle.rules.specs.Plans.{open_file, open_read, read_page};
 ghost use Rattle.listing.specs.Listed.{listed};
 ghost use Rattle.rules.specs.Calls.{look};
 ghost use Rattle.rules.specs.Spare.{spare};
-ghost use Rattle.capi.specs.Passing.{passedQuery, passedCount, passedFormat, truth, calledBy, askedBy, listedLength};
+ghost use Rattle.capi.specs.Passing.{passed_query, passed_count, passed_format, truth, called_by, asked_by, listed_length};
 
 use crate::pass::{
     pass, pass_count, pass_format, pass_list, pass_query, refuse_bits, refuse_session, session_from,
@@ -47,7 +47,7 @@ pub struct VolAnswer {
 // Formats the volume.
 #[unsafe(no_mangle)]
 pub extern "C" fn vol_format(volume: &mut [u8], clients: u8, shape: &[u8]) -> VolAnswer
-    ensures value { result ≡ passedFormat (Rattle.volume.specs.Format.format volume.old clients shape.now).answer }
+    ensures value { result ≡ passed_format (Rattle.volume.specs.Format.format volume.old clients shape.now).answer }
     ensures volume_after { volume.new ≡ (Rattle.volume.specs.Format.format volume.old clients shape.now).volume }
 {
     pass_format(format::format(volume, clients, shape))
@@ -72,7 +72,7 @@ pub extern "C" fn vol_begin(
     client: u8,
     budget: u8,
 ) -> VolReply
-    ensures { (record { reply = result; volume = volume.new }) ≡ calledBy volume.old session (Rattle.rules.specs.Plans.begin client) budget }
+    ensures { (record { reply = result; volume = volume.new }) ≡ called_by volume.old session (Rattle.rules.specs.Plans.begin client) budget }
 {
     if 15 < session.active {
         return refuse_session(volume, session);
@@ -89,7 +89,7 @@ pub extern "C" fn vol_open(
     file: u8,
     budget: u8,
 ) -> VolReply
-    ensures { (record { reply = result; volume = volume.new }) ≡ calledBy volume.old session (openFile client file) budget }
+    ensures { (record { reply = result; volume = volume.new }) ≡ called_by volume.old session (open_file client file) budget }
 {
     if 15 < session.active {
         return refuse_session(volume, session);
@@ -107,7 +107,7 @@ pub extern "C" fn vol_open_read(
     file: u8,
     budget: u8,
 ) -> VolReply
-    ensures { (record { reply = result; volume = volume.new }) ≡ calledBy volume.old session (openRead client file) budget }
+    ensures { (record { reply = result; volume = volume.new }) ≡ called_by volume.old session (open_read client file) budget }
 {
     if 15 < session.active {
         return refuse_session(volume, session);
@@ -124,7 +124,7 @@ pub extern "C" fn vol_read(
     file: u8,
     page: u8,
 ) -> VolAnswer
-    ensures { result ≡ askedBy volume.now session (readPage client file page) }
+    ensures { result ≡ asked_by volume.now session (read_page client file page) }
 {
     if 15 < session.active {
         return refuse_bits(volume);
@@ -136,7 +136,7 @@ pub extern "C" fn vol_read(
 // (`must-fail/look_at_page_of_file`); a sector told as a refusal (`must-fail/sector_as_refusal`).
 #[unsafe(no_mangle)]
 pub extern "C" fn vol_look(volume: &[u8], file: u8, page: u8) -> VolAnswer
-    ensures { result ≡ passedQuery (look volume.now file page) }
+    ensures { result ≡ passed_query (look volume.now file page) }
 {
     pass_query(calls::look(volume, file, page))
 }
@@ -145,7 +145,7 @@ pub extern "C" fn vol_look(volume: &[u8], file: u8, page: u8) -> VolAnswer
 // file.
 #[unsafe(no_mangle)]
 pub extern "C" fn vol_spare(volume: &[u8], file: u8) -> VolAnswer
-    ensures { result ≡ passedCount (spare volume.now file) }
+    ensures { result ≡ passed_count (spare volume.now file) }
 {
     pass_count(calls::spare(volume, file))
 }
@@ -161,7 +161,7 @@ pub extern "C" fn vol_write(
     bytes: &[u8],
     budget: u8,
 ) -> VolReply
-    ensures { (record { reply = result; volume = volume.new }) ≡ calledBy volume.old session (Rattle.rules.specs.Plans.write client file page bytes.now) budget }
+    ensures { (record { reply = result; volume = volume.new }) ≡ called_by volume.old session (Rattle.rules.specs.Plans.write client file page bytes.now) budget }
 {
     if 15 < session.active {
         return refuse_session(volume, session);
@@ -185,7 +185,7 @@ pub extern "C" fn vol_commit(
     client: u8,
     budget: u8,
 ) -> VolReply
-    ensures { (record { reply = result; volume = volume.new }) ≡ calledBy volume.old session (Rattle.rules.specs.Plans.commit client) budget }
+    ensures { (record { reply = result; volume = volume.new }) ≡ called_by volume.old session (Rattle.rules.specs.Plans.commit client) budget }
 {
     if 15 < session.active {
         return refuse_session(volume, session);
@@ -201,7 +201,7 @@ pub extern "C" fn vol_abort(
     client: u8,
     budget: u8,
 ) -> VolReply
-    ensures { (record { reply = result; volume = volume.new }) ≡ calledBy volume.old session (Rattle.rules.specs.Plans.abort client) budget }
+    ensures { (record { reply = result; volume = volume.new }) ≡ called_by volume.old session (Rattle.rules.specs.Plans.abort client) budget }
 {
     if 15 < session.active {
         return refuse_session(volume, session);
@@ -212,7 +212,7 @@ pub extern "C" fn vol_abort(
 // Writes the listing of the volume to the front of `out`: its length, or 0 if nothing was written.
 #[unsafe(no_mangle)]
 pub extern "C" fn vol_list(volume: &[u8], out: &mut [u8]) -> u64
-    ensures value { result ≡ listedLength (listed volume.now out.old).outcome }
+    ensures value { result ≡ listed_length (listed volume.now out.old).outcome }
     ensures out_after { out.new ≡ (listed volume.now out.old).out }
 {
     pass_list(listing::list(volume, out))

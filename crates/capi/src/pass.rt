@@ -1,7 +1,7 @@
 // Sessions, replies and answers, as C gets them and gives them.
 ghost use Rattle.std.specs.Prelude.{◌≡◌};
-ghost use Rattle.interface.specs.Answers.{refusalNumber, answerOf, queryAnswerOf, countAnswerOf, formatAnswerOf};
-ghost use Rattle.capi.specs.Passing.{sessionFrom, passedSession, passedAnswer, passedQuery, passedCount, passedFormat, otherBitsRefused, replyWith, listedLength};
+ghost use Rattle.interface.specs.Answers.{refusal_number, answer_of, query_answer_of, count_answer_of, format_answer_of};
+ghost use Rattle.capi.specs.Passing.{session_from, passed_session, passed_answer, passed_query, passed_count, passed_format, other_bits_refused, reply_with, listed_length};
 
 use crate::{VolAnswer, VolReply, VolSession};
 use interface::{CountOutcome, FormatOutcome, Outcome, QueryOutcome, Refusal, Reply, Session};
@@ -9,7 +9,7 @@ use listing::ListOutcome;
 
 // The session that C gives.
 pub fn session_from(s: VolSession) -> Session
-    ensures { result ≡ sessionFrom s }
+    ensures { result ≡ session_from s }
 {
     let reading = s.reading;
     interface::session_of(s.active, reading)
@@ -17,7 +17,7 @@ pub fn session_from(s: VolSession) -> Session
 
 // A session as C gets it.
 fn pass_session(s: Session) -> VolSession
-    ensures { result ≡ passedSession s }
+    ensures { result ≡ passed_session s }
 {
     let reading = s.reading;
     VolSession {
@@ -35,7 +35,7 @@ fn wide(n: u8) -> u16
 
 // A refusal.
 fn refused(r: Refusal) -> VolAnswer
-    ensures { result ≡ record { kind = 2; number = refusalNumber r } }
+    ensures { result ≡ record { kind = 2; number = refusal_number r } }
 {
     VolAnswer {
         kind: 2,
@@ -45,7 +45,7 @@ fn refused(r: Refusal) -> VolAnswer
 
 // A call's answer.
 fn pass_outcome(o: Outcome) -> VolAnswer
-    ensures { result ≡ passedAnswer (answerOf o) }
+    ensures { result ≡ passed_answer (answer_of o) }
 {
     match o {
         Outcome::Done(n) => VolAnswer {
@@ -62,7 +62,7 @@ fn pass_outcome(o: Outcome) -> VolAnswer
 
 // A question's answer.
 pub fn pass_query(o: QueryOutcome) -> VolAnswer
-    ensures { result ≡ passedQuery (queryAnswerOf o) }
+    ensures { result ≡ passed_query (query_answer_of o) }
 {
     match o {
         QueryOutcome::Sector(n) => VolAnswer { kind: 3, number: n },
@@ -72,7 +72,7 @@ pub fn pass_query(o: QueryOutcome) -> VolAnswer
 
 // A count.
 pub fn pass_count(o: CountOutcome) -> VolAnswer
-    ensures { result ≡ passedCount (countAnswerOf o) }
+    ensures { result ≡ passed_count (count_answer_of o) }
 {
     match o {
         CountOutcome::Count(n) => VolAnswer {
@@ -85,7 +85,7 @@ pub fn pass_count(o: CountOutcome) -> VolAnswer
 
 // A format's answer.
 pub fn pass_format(o: FormatOutcome) -> VolAnswer
-    ensures { result ≡ passedFormat (formatAnswerOf o) }
+    ensures { result ≡ passed_format (format_answer_of o) }
 {
     match o {
         FormatOutcome::Done => VolAnswer { kind: 0, number: 0 },
@@ -95,7 +95,7 @@ pub fn pass_format(o: FormatOutcome) -> VolAnswer
 
 // An answer with a session.
 fn reply_with(s: VolSession, x: VolAnswer) -> VolReply
-    ensures { result ≡ replyWith s x }
+    ensures { result ≡ reply_with s x }
 {
     VolReply {
         session: s,
@@ -106,7 +106,7 @@ fn reply_with(s: VolSession, x: VolAnswer) -> VolReply
 
 // A call's reply.
 pub fn pass(r: Reply) -> VolReply
-    ensures { result ≡ replyWith (passedSession r.session) (passedAnswer (answerOf r.outcome)) }
+    ensures { result ≡ reply_with (passed_session r.session) (passed_answer (answer_of r.outcome)) }
 {
     let s = r.session;
     let o = r.outcome;
@@ -115,7 +115,7 @@ pub fn pass(r: Reply) -> VolReply
 
 // The refusal of a session with other bits than four marks.
 pub fn refuse_bits(v: &[u8]) -> VolAnswer
-    ensures { result ≡ otherBitsRefused v.now }
+    ensures { result ≡ other_bits_refused v.now }
 {
     if soundness::is_sound(v) {
         return VolAnswer { kind: 2, number: 2 };
@@ -125,14 +125,14 @@ pub fn refuse_bits(v: &[u8]) -> VolAnswer
 
 // The same with the session given.
 pub fn refuse_session(v: &[u8], s: VolSession) -> VolReply
-    ensures { result ≡ replyWith s (otherBitsRefused v.now) }
+    ensures { result ≡ reply_with s (other_bits_refused v.now) }
 {
     reply_with(s, refuse_bits(v))
 }
 
 // The length of a listing, or 0.
 pub fn pass_list(o: ListOutcome) -> u64
-    ensures { result ≡ listedLength o }
+    ensures { result ≡ listed_length o }
 {
     match o {
         ListOutcome::Listed(n) => n as u64,

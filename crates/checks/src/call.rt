@@ -2,14 +2,14 @@
 ghost use Rattle.std.specs.Prelude.{◌≡◌};
 ghost use Rattle.lists.specs.Lists.{first};
 ghost use Rattle.sector.specs.Contents.{Table};
-ghost use Rattle.volume.specs.Places.{isFile};
+ghost use Rattle.volume.specs.Places.{is_file};
 ghost use Rattle.volume.specs.Views.{View};
 ghost use Rattle.volume.specs.Volumes.{view};
 ghost use Rattle.volume.specs.Sound.{sound};
 ghost use Rattle.volume.specs.WellFormed.{TableFormed};
 ghost use Rattle.rules.specs.Plans.{begin, commit};
-ghost use Rattle.rules.specs.Refusals.{clientTests, tests};
-ghost use Rattle.checks.specs.Verdicts.{numberOf};
+ghost use Rattle.rules.specs.Refusals.{client_tests, tests};
+ghost use Rattle.checks.specs.Verdicts.{number_of};
 
 use crate::Verdict;
 use interface::{Refusal, Session};
@@ -18,7 +18,7 @@ use sessions::{is_active, session_fits};
 // Tests 1 to 3: the volume is sound, as `ok` says; the session fits it; and client k exists.
 fn check_client(v: &[u8], ok: bool, s: Session, k: u8) -> Verdict
     requires { ok ≡ sound v.now }
-    ensures { numberOf result ≡ first (clientTests (sound v.now) (view v.now) s k) }
+    ensures { number_of result ≡ first (client_tests (sound v.now) (view v.now) s k) }
 {
     if !ok {
         return Verdict::Refused(Refusal::NotSound);
@@ -38,7 +38,7 @@ fn check_client(v: &[u8], ok: bool, s: Session, k: u8) -> Verdict
 // Whether file f exists.
 pub fn is_file(v: &[u8], f: u8) -> bool
     requires { TableFormed v.now }
-    ensures { result ≡ isFile (view v.now).table f }
+    ensures { result ≡ is_file (view v.now).table f }
 {
     if f < 1 {
         return false;
@@ -48,7 +48,7 @@ pub fn is_file(v: &[u8], f: u8) -> bool
 
 // The tests of begin.
 pub fn check_begin(v: &[u8], s: Session, k: u8) -> Verdict
-    ensures { numberOf result ≡ first (tests (sound v.now) (view v.now) s (begin k)) }
+    ensures { number_of result ≡ first (tests (sound v.now) (view v.now) s (begin k)) }
 {
     let ok = soundness::is_sound(v);
     match check_client(v, ok, s, k) {
@@ -64,7 +64,7 @@ pub fn check_begin(v: &[u8], s: Session, k: u8) -> Verdict
 
 // The tests of commit, and of abort.
 pub fn check_active(v: &[u8], s: Session, k: u8) -> Verdict
-    ensures { numberOf result ≡ first (tests (sound v.now) (view v.now) s (commit k)) }
+    ensures { number_of result ≡ first (tests (sound v.now) (view v.now) s (commit k)) }
 {
     let ok = soundness::is_sound(v);
     match check_client(v, ok, s, k) {

@@ -6,9 +6,9 @@ ghost use Rattle.volume.specs.Places.{IsFile};
 ghost use Rattle.volume.specs.Views.{View};
 ghost use Rattle.volume.specs.Volumes.{view};
 ghost use Rattle.volume.specs.Sound.{sound};
-ghost use Rattle.rules.specs.Plans.{openFile, openRead};
-ghost use Rattle.rules.specs.Refusals.{heldByOther, openTests, openReadTests, tests};
-ghost use Rattle.checks.specs.Verdicts.{numberOf};
+ghost use Rattle.rules.specs.Plans.{open_file, open_read};
+ghost use Rattle.rules.specs.Refusals.{held_by_other, open_tests, open_read_tests, tests};
+ghost use Rattle.checks.specs.Verdicts.{number_of};
 
 use crate::Verdict;
 use crate::call::{check_active, is_file};
@@ -18,7 +18,7 @@ use sessions::{is_active, is_read_by_other};
 // Whether a client other than k that is active holds file f for writing.
 fn held_by_other(v: &[u8], s: Session, k: u8, f: u8) -> bool
     requires { (sound v.now ≡ true) × IsFile (view v.now).table f }
-    ensures { result ≡ heldByOther (view v.now) s k f }
+    ensures { result ≡ held_by_other (view v.now) s k f }
 {
     let h = volume::holder(v, f);
     if h == 0 {
@@ -33,7 +33,7 @@ fn held_by_other(v: &[u8], s: Session, k: u8, f: u8) -> bool
 // Tests 6 and 7 of open for writing: file f exists, and no other client holds it, neither for writing nor for reading.
 fn check_free(v: &[u8], s: Session, k: u8, f: u8) -> Verdict
     requires { sound v.now ≡ true }
-    ensures { numberOf result ≡ first (openTests (view v.now) s k f) }
+    ensures { number_of result ≡ first (open_tests (view v.now) s k f) }
 {
     if !is_file(v, f) {
         return Verdict::Refused(Refusal::NoFile);
@@ -50,7 +50,7 @@ fn check_free(v: &[u8], s: Session, k: u8, f: u8) -> Verdict
 // Tests 6 and 7 of open for reading: file f exists, and no other active client holds it for writing.
 fn check_no_writer(v: &[u8], s: Session, k: u8, f: u8) -> Verdict
     requires { sound v.now ≡ true }
-    ensures { numberOf result ≡ first (openReadTests (view v.now) s k f) }
+    ensures { number_of result ≡ first (open_read_tests (view v.now) s k f) }
 {
     if !is_file(v, f) {
         return Verdict::Refused(Refusal::NoFile);
@@ -64,7 +64,7 @@ fn check_no_writer(v: &[u8], s: Session, k: u8, f: u8) -> Verdict
 // The tests of open for writing. Ruled out: a file that another client reads accepted
 // (`rules/must-fail/write_beside_reader`); the client's own reading hold taken for another's (`must-fail/own_hold_excludes`).
 pub fn check_open(v: &[u8], s: Session, k: u8, f: u8) -> Verdict
-    ensures { numberOf result ≡ first (tests (sound v.now) (view v.now) s (openFile k f)) }
+    ensures { number_of result ≡ first (tests (sound v.now) (view v.now) s (open_file k f)) }
 {
     match check_active(v, s, k) {
         Verdict::Refused(r) => Verdict::Refused(r),
@@ -75,7 +75,7 @@ pub fn check_open(v: &[u8], s: Session, k: u8, f: u8) -> Verdict
 // The tests of open for reading. Ruled out: a file that another active client writes accepted
 // (`rules/must-fail/read_beside_writer`); one that others read refused (`rules/must-fail/readers_exclude`).
 pub fn check_open_read(v: &[u8], s: Session, k: u8, f: u8) -> Verdict
-    ensures { numberOf result ≡ first (tests (sound v.now) (view v.now) s (openRead k f)) }
+    ensures { number_of result ≡ first (tests (sound v.now) (view v.now) s (open_read k f)) }
 {
     match check_active(v, s, k) {
         Verdict::Refused(r) => Verdict::Refused(r),

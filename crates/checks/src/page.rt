@@ -6,10 +6,10 @@ ghost use Rattle.volume.specs.Places.{IsFile};
 ghost use Rattle.volume.specs.Views.{View};
 ghost use Rattle.volume.specs.Volumes.{view};
 ghost use Rattle.volume.specs.Sound.{sound};
-ghost use Rattle.rules.specs.Sessions.{holdsEither};
-ghost use Rattle.rules.specs.Plans.{readPage};
-ghost use Rattle.rules.specs.Refusals.{pageMissing, heldTests, readTests, queryTests};
-ghost use Rattle.checks.specs.Verdicts.{numberOf};
+ghost use Rattle.rules.specs.Sessions.{holds_either};
+ghost use Rattle.rules.specs.Plans.{read_page};
+ghost use Rattle.rules.specs.Refusals.{page_missing, held_tests, read_tests, query_tests};
+ghost use Rattle.checks.specs.Verdicts.{number_of};
 
 use crate::Verdict;
 use crate::call::{check_active, is_file};
@@ -19,7 +19,7 @@ use sessions::is_reading;
 // Whether client k holds file f, for writing or for reading.
 pub fn holds_either(v: &[u8], s: Session, k: u8, f: u8) -> bool
     requires { (sound v.now ≡ true) × (1 ≤ k) × (k ≤ 4) × IsFile (view v.now).table f }
-    ensures { result ≡ holdsEither (view v.now) s k f }
+    ensures { result ≡ holds_either (view v.now) s k f }
 {
     if volume::holder(v, f) == k {
         return true;
@@ -30,7 +30,7 @@ pub fn holds_either(v: &[u8], s: Session, k: u8, f: u8) -> bool
 // Tests 6 and 8: file f exists, and client k holds it.
 pub fn check_held(v: &[u8], s: Session, k: u8, f: u8) -> Verdict
     requires { (sound v.now ≡ true) × (1 ≤ k) × (k ≤ 4) }
-    ensures { numberOf result ≡ first (heldTests (view v.now) s k f) }
+    ensures { number_of result ≡ first (held_tests (view v.now) s k f) }
 {
     if !is_file(v, f) {
         return Verdict::Refused(Refusal::NoFile);
@@ -44,7 +44,7 @@ pub fn check_held(v: &[u8], s: Session, k: u8, f: u8) -> Verdict
 // Test 9: file f has page p.
 pub fn check_page(v: &[u8], f: u8, p: u8) -> Verdict
     requires { (sound v.now ≡ true) × IsFile (view v.now).table f }
-    ensures { numberOf result ≡ first (pageMissing (view v.now) f p ∷ []) }
+    ensures { number_of result ≡ first (page_missing (view v.now) f p ∷ []) }
 {
     if volume::pages(v, f) <= p {
         return Verdict::Refused(Refusal::NoPage);
@@ -55,7 +55,7 @@ pub fn check_page(v: &[u8], f: u8, p: u8) -> Verdict
 // Tests 6, 8 and 9.
 fn check_read_page(v: &[u8], s: Session, k: u8, f: u8, p: u8) -> Verdict
     requires { (sound v.now ≡ true) × (1 ≤ k) × (k ≤ 4) }
-    ensures { numberOf result ≡ first (readTests (view v.now) s k f p) }
+    ensures { number_of result ≡ first (read_tests (view v.now) s k f p) }
 {
     match check_held(v, s, k, f) {
         Verdict::Refused(r) => Verdict::Refused(r),
@@ -66,7 +66,7 @@ fn check_read_page(v: &[u8], s: Session, k: u8, f: u8, p: u8) -> Verdict
 // The tests of read. Ruled out: a file that the client holds for reading refused by 8
 // (`rules/must-fail/reader_not_held`); a page past the last one accepted.
 pub fn check_read(v: &[u8], s: Session, k: u8, f: u8, p: u8) -> Verdict
-    ensures { numberOf result ≡ first (queryTests (sound v.now) (view v.now) s (readPage k f p)) }
+    ensures { number_of result ≡ first (query_tests (sound v.now) (view v.now) s (read_page k f p)) }
 {
     match check_active(v, s, k) {
         Verdict::Refused(r) => Verdict::Refused(r),

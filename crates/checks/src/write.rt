@@ -9,9 +9,9 @@ ghost use Rattle.volume.specs.Volumes.{view};
 ghost use Rattle.volume.specs.Sound.{sound};
 ghost use Rattle.volume.specs.WellFormed.{WellFormed};
 ghost use Rattle.rules.specs.Plans.{write, chosen};
-ghost use Rattle.rules.specs.Refusals.{isNewPage, noFreeSlot, recordFull, activeTests, writeTests, slotTests, tests};
-ghost use Rattle.checks.specs.Verdicts.{numberOf};
-ghost use Rattle.checks.specs.Writes.{writeFound, answerBy, writeAnswer};
+ghost use Rattle.rules.specs.Refusals.{is_new_page, no_free_slot, record_full, active_tests, write_tests, slot_tests, tests};
+ghost use Rattle.checks.specs.Verdicts.{number_of};
+ghost use Rattle.checks.specs.Writes.{write_found, answer_by, write_answer};
 
 use crate::call::check_active;
 use crate::page::{check_held, check_page};
@@ -23,7 +23,7 @@ use slots::{Found, find_entry, free_slot};
 // Tests 6, 8, 16 and 9: 16 is that client k holds file f for reading only.
 fn check_write_page(v: &[u8], s: Session, k: u8, f: u8, p: u8) -> Verdict
     requires { (sound v.now ≡ true) × (1 ≤ k) × (k ≤ 4) }
-    ensures { numberOf result ≡ first (writeTests (view v.now) s k f p) }
+    ensures { number_of result ≡ first (write_tests (view v.now) s k f p) }
 {
     match check_held(v, s, k, f) {
         Verdict::Refused(r) => Verdict::Refused(r),
@@ -38,7 +38,7 @@ fn check_write_page(v: &[u8], s: Session, k: u8, f: u8, p: u8) -> Verdict
 
 // The tests of write up to 9.
 fn check_write_call(v: &[u8], s: Session, k: u8, f: u8, p: u8) -> Verdict
-    ensures { numberOf result ≡ first (activeTests (sound v.now) (view v.now) s k ++ writeTests (view v.now) s k f p) }
+    ensures { number_of result ≡ first (active_tests (sound v.now) (view v.now) s k ++ write_tests (view v.now) s k f p) }
 {
     match check_active(v, s, k) {
         Verdict::Refused(r) => Verdict::Refused(r),
@@ -49,7 +49,7 @@ fn check_write_call(v: &[u8], s: Session, k: u8, f: u8, p: u8) -> Verdict
 // Tests 11 and 12 of a page that record k has no entry for: file f has a free slot, and the record has room.
 fn new_slot(v: &[u8], k: u8, f: u8, p: u8) -> WriteVerdict
     requires { WellFormed v.now × IsClient (view v.now).table k × IsPage (view v.now).table f p }
-    ensures { writeFound result ≡ answerBy (first (noFreeSlot true (view v.now) k f ∷ recordFull true (view v.now) k ∷ [])) none (chosen (view v.now) k f p) }
+    ensures { write_found result ≡ answer_by (first (no_free_slot true (view v.now) k f ∷ record_full true (view v.now) k ∷ [])) none (chosen (view v.now) k f p) }
 {
     match free_slot(v, k, f, p) {
         Found::Nothing => WriteVerdict::Refused(Refusal::NoFreeSlot),
@@ -65,7 +65,7 @@ fn new_slot(v: &[u8], k: u8, f: u8, p: u8) -> WriteVerdict
 // Tests 10 to 12: the page has its length, and record k has an entry for it or can take one.
 fn check_slot(v: &[u8], k: u8, f: u8, p: u8, bytes: &[u8]) -> WriteVerdict
     requires { WellFormed v.now × IsClient (view v.now).table k × IsPage (view v.now).table f p }
-    ensures { writeFound result ≡ writeAnswer (first (slotTests (isNewPage (view v.now) k f p) (view v.now) k f bytes.now)) (view v.now) k f p }
+    ensures { write_found result ≡ write_answer (first (slot_tests (is_new_page (view v.now) k f p) (view v.now) k f bytes.now)) (view v.now) k f p }
 {
     if bytes.len() != Sector::SIZE {
         return WriteVerdict::Refused(Refusal::BadPageLength);
@@ -79,7 +79,7 @@ fn check_slot(v: &[u8], k: u8, f: u8, p: u8, bytes: &[u8]) -> WriteVerdict
 // The tests of write, and where the page goes. Ruled out: 16 tested after 9 (`rules/must-fail/sixteen_after_nine`); a file
 // held for reading only accepted (`must-fail/reader_writes`).
 pub fn check_write(v: &[u8], s: Session, k: u8, f: u8, p: u8, bytes: &[u8]) -> WriteVerdict
-    ensures { writeFound result ≡ writeAnswer (first (tests (sound v.now) (view v.now) s (write k f p bytes.now))) (view v.now) k f p }
+    ensures { write_found result ≡ write_answer (first (tests (sound v.now) (view v.now) s (write k f p bytes.now))) (view v.now) k f p }
 {
     match check_write_call(v, s, k, f, p) {
         Verdict::Refused(r) => WriteVerdict::Refused(r),

@@ -7,59 +7,59 @@ use Prim.Native.Nat.{ℕ}
 use Prim.Native.String.{String}
 use lib.ListN.{replicate}
 use Rattle.interface.specs.declared.Session.{Session}
-use Rattle.interface.specs.Answers.{newSession, sessionOf}
+use Rattle.interface.specs.Answers.{new_session, session_of}
 use Rattle.interface.proofs.AnswerExamples.{marks}
-use Rattle.byteset.specs.Bits.{withBit}
+use Rattle.byteset.specs.Bits.{with_bit}
 use Rattle.volume.specs.Volumes.{Volume}
-use Rattle.rules.specs.Sessions.{isReading}
+use Rattle.rules.specs.Sessions.{is_reading}
 use Rattle.rules.specs.Spare.{spare}
-use Rattle.script.specs.Fields.{fromField}
-use Rattle.script.specs.Kinds.{bytesOf}
+use Rattle.script.specs.Fields.{from_field}
+use Rattle.script.specs.Kinds.{bytes_of}
 use Rattle.commands.specs.declared.Added.{Added}
-use Rattle.commands.specs.Inspect.{sessionSet, isHold, readingAdded, showsHold, spareAsked}
+use Rattle.commands.specs.Inspect.{session_set, is_hold, reading_added, shows_hold, spare_asked}
 
 -- "K 1 to 4, F 1 to 16"
-room-for-holds : isHold 1 1 ∷ isHold 4 16 ∷ isHold 0 1 ∷ isHold 5 1 ∷ isHold 1 0 ∷ isHold 1 17 ∷ []
+room_for_holds : is_hold 1 1 ∷ is_hold 4 16 ∷ is_hold 0 1 ∷ is_hold 5 1 ∷ is_hold 1 0 ∷ is_hold 1 17 ∷ []
     ≡ true ∷ true ∷ false ∷ false ∷ false ∷ false ∷ []
-room-for-holds = refl
+room_for_holds = refl
 
 -- Marks by their bits, and no hold.
-sessions-set : map (λ l. sessionSet (bytesOf l)) ("session 10" ∷ "session 0" ∷ [])
-    ≡ marks false true false true ∷ newSession ∷ []
-unfolding fromField
-sessions-set = refl
+sessions_set : map (λ l. session_set (bytes_of l)) ("session 10" ∷ "session 0" ∷ [])
+    ≡ marks false true false true ∷ new_session ∷ []
+unfolding from_field
+sessions_set = refl
 
 -- Clients 1 and 2 are active, with these words of holds.
 abbrev session : List ℕ → Session
-session words = sessionOf 3 words
+session words = session_of 3 words
 
 -- What a line adds where client 1 reads file 2.
 abbrev adds : String → Added
-adds l = readingAdded (session (2 ∷ 0 ∷ 0 ∷ 0 ∷ [])) (bytesOf l)
+adds l = reading_added (session (2 ∷ 0 ∷ 0 ∷ 0 ∷ [])) (bytes_of l)
 
 -- The hold is added to those there are, also of a client that isn't active; a client 0 or a file 0 is none.
-lines-add : map adds ("reading 1 1" ∷ "reading 4 16" ∷ "reading 1 2" ∷ "reading 0 1" ∷ "reading 1 0" ∷ [])
+lines_add : map adds ("reading 1 1" ∷ "reading 4 16" ∷ "reading 1 2" ∷ "reading 0 1" ∷ "reading 1 0" ∷ [])
     ≡ record { is_understood = true; session = session (3 ∷ 0 ∷ 0 ∷ 0 ∷ []) }
     ∷ record { is_understood = true; session = session (2 ∷ 0 ∷ 0 ∷ 32768 ∷ []) }
     ∷ record { is_understood = true; session = session (2 ∷ 0 ∷ 0 ∷ 0 ∷ []) }
     ∷ record { is_understood = false; session = session (2 ∷ 0 ∷ 0 ∷ 0 ∷ []) }
     ∷ record { is_understood = false; session = session (2 ∷ 0 ∷ 0 ∷ 0 ∷ []) }
     ∷ []
-unfolding readingAdded fromField withBit
-lines-add = refl
+unfolding reading_added from_field with_bit
+lines_add = refl
 
 -- Client 1 reads file 2, client 4 files 1 and 16. There is no client 0 or 5, and no file 0 or 17.
-holds-shown : map (λ k. map (λ f. showsHold (session (2 ∷ 0 ∷ 0 ∷ 0x8001 ∷ [])) k f) (0 ∷ 1 ∷ 2 ∷ 16 ∷ 17 ∷ [])) (0 ∷ 1 ∷ 2 ∷ 4 ∷ 5 ∷ [])
+holds_shown : map (λ k. map (λ f. shows_hold (session (2 ∷ 0 ∷ 0 ∷ 0x8001 ∷ [])) k f) (0 ∷ 1 ∷ 2 ∷ 16 ∷ 17 ∷ [])) (0 ∷ 1 ∷ 2 ∷ 4 ∷ 5 ∷ [])
     ≡ replicate 5 false
     ∷ (false ∷ false ∷ true ∷ false ∷ false ∷ [])
     ∷ replicate 5 false
     ∷ (false ∷ true ∷ false ∷ true ∷ false ∷ [])
     ∷ replicate 5 false
     ∷ []
-unfolding isReading
-holds-shown = refl
+unfolding is_reading
+holds_shown = refl
 
 -- `spare F` asks about that file.
-spares-asked : (v : Volume) → map (λ l. spareAsked v (bytesOf l)) ("spare 0" ∷ "spare 2" ∷ "spare 255" ∷ []) ≡ map (spare v) (0 ∷ 2 ∷ 255 ∷ [])
-unfolding fromField
-spares-asked v = refl
+spares_asked : (v : Volume) → map (λ l. spare_asked v (bytes_of l)) ("spare 0" ∷ "spare 2" ∷ "spare 255" ∷ []) ≡ map (spare v) (0 ∷ 2 ∷ 255 ∷ [])
+unfolding from_field
+spares_asked v = refl

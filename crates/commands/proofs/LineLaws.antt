@@ -7,11 +7,11 @@ use lib.Seq.{take-suc-set}
 use Rattle.sector.specs.Contents.{Bytes}
 use Rattle.commands.specs.Lines.{values}
 
-pub values-none : (f : ℕ → ℕ) (b : Bytes) → take 0 b ≡ values f 0
+pub values_none : (f : ℕ → ℕ) (b : Bytes) → take 0 b ≡ values f 0
 unfolding values
-values-none f b = refl
+values_none f b = refl
 
-pub values-more : (f : ℕ → ℕ) (b : Bytes) (i x : ℕ) → i < length b → x ≡ f i → take i b ≡ values f i
+pub values_more : (f : ℕ → ℕ) (b : Bytes) (i x : ℕ) → i < length b → x ≡ f i → take i b ≡ values f i
     → take (i + 1) (set b i x) ≡ values f (i + 1)
 unfolding values
-values-more f b i x h e q = rw (add-one i, take-suc-set b i x h, e, q)
+values_more f b i x h e q = rw (add-one i, take-suc-set b i x h, e, q)

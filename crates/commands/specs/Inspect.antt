@@ -1,55 +1,55 @@
 -- The lines that are passed over, those that set or show the session, and those that look at the volume or change it by hand.
 use Rattle.std.specs.Prelude.{Bool, true, false, ◌&&◌, [], ◌∷◌, ℕ, ◌/◌, eqb, ltb, length, set}
 use Rattle.interface.specs.declared.Session.{Session}
-use Rattle.interface.specs.Answers.{noneReading, sessionOf, CountAnswer}
+use Rattle.interface.specs.Answers.{none_reading, session_of, CountAnswer}
 use Rattle.lists.specs.Lists.{when◌then◌else◌, between}
 use Rattle.sector.specs.Contents.{Bytes}
 use Rattle.sector.specs.Sectors.{sector}
 use Rattle.volume.specs.Volumes.{Volume}
-use Rattle.rules.specs.Sessions.{isReading, withReading}
+use Rattle.rules.specs.Sessions.{is_reading, with_reading}
 use Rattle.rules.specs.Spare.{spare}
 use Rattle.script.specs.Fields.{argument}
 use Rattle.commands.specs.declared.Added.{Added}
-use Rattle.commands.specs.Lines.{byteArgument}
+use Rattle.commands.specs.Lines.{byte_argument}
 
 -- "Empty lines and lines that begin with `#` are skipped."
-abbrev pub isRemark : Bytes → Bool
-isRemark [] = true
-isRemark (c ∷ l) = eqb c 0x23
+abbrev pub is_remark : Bytes → Bool
+is_remark [] = true
+is_remark (c ∷ l) = eqb c 0x23
 
 -- `session M`: client k is marked where bit k − 1 of M is set, "without reading holds".
-abbrev pub sessionSet : Bytes → Session
-sessionSet l = sessionOf (byteArgument 1 l) noneReading
+abbrev pub session_set : Bytes → Session
+session_set l = session_of (byte_argument 1 l) none_reading
 
 -- A session has room for a reading hold of this client and file: "K 1 to 4, F 1 to 16".
-abbrev pub isHold : (client : ℕ) → (file : ℕ) → Bool
-isHold k f = between 1 k 4 && between 1 f 16
+abbrev pub is_hold : (client : ℕ) → (file : ℕ) → Bool
+is_hold k f = between 1 k 4 && between 1 f 16
 
 -- `reading K F`: "the session gets that reading hold", if there is room for it.
-unfoldable pub readingAdded : Session → Bytes → Added
-readingAdded s l =
-    when isHold (byteArgument 1 l) (byteArgument 2 l)
-    then record { is_understood = true; session = withReading s (byteArgument 1 l) (byteArgument 2 l) }
+unfoldable pub reading_added : Session → Bytes → Added
+reading_added s l =
+    when is_hold (byte_argument 1 l) (byte_argument 2 l)
+    then record { is_understood = true; session = with_reading s (byte_argument 1 l) (byte_argument 2 l) }
     else record { is_understood = false; session = s }
 
 -- `session` has a line for this client and file: the client holds the file for reading.
-abbrev pub showsHold : Session → (client : ℕ) → (file : ℕ) → Bool
-showsHold s k f = isHold k f && isReading s k f
+abbrev pub shows_hold : Session → (client : ℕ) → (file : ℕ) → Bool
+shows_hold s k f = is_hold k f && is_reading s k f
 
 -- `spare F`: M-104's question about that file.
-abbrev pub spareAsked : Volume → Bytes → CountAnswer
-spareAsked v l = spare v (byteArgument 1 l)
+abbrev pub spare_asked : Volume → Bytes → CountAnswer
+spare_asked v l = spare v (byte_argument 1 l)
 
 -- Whether the place is in the volume, and the volume afterwards.
 pub record Poked : Type 0 where
-  pub isInside : Bool
+  pub is_inside : Bool
   pub volume : Volume
 
 -- `poke ADDRESS BYTE`: "one byte of the volume"
 unfoldable pub poked : Volume → Bytes → Poked
 poked v l =
-    when ltb (argument 1 l) (length v) then record { isInside = true; volume = set v (argument 1 l) (byteArgument 2 l) }
-    else record { isInside = false; volume = v }
+    when ltb (argument 1 l) (length v) then record { is_inside = true; volume = set v (argument 1 l) (byte_argument 2 l) }
+    else record { is_inside = false; volume = v }
 
 -- `dump S`: sector S; nothing if it isn't in the volume.
 unfoldable pub dumped : Volume → Bytes → Bytes

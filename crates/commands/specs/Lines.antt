@@ -6,19 +6,19 @@ use Rattle.script.specs.Fields.{arguments, argument}
 use Rattle.atomicity.specs.Runs.{Step}
 use Rattle.commands.specs.declared.Action.{Action}
 use Rattle.commands.specs.declared.Command.{Command}
-use Rattle.commands.specs.Commands.{isLook, stepOf}
+use Rattle.commands.specs.Commands.{is_look, step_of}
 
 -- Argument i as a byte. A line that is understood has no larger one where this is asked.
-abbrev pub byteArgument : ℕ → Bytes → ℕ
-byteArgument i l = min (argument i l) 255
+abbrev pub byte_argument : ℕ → Bytes → ℕ
+byte_argument i l = min (argument i l) 255
 
 -- "a BUDGET left out is 255"
-abbrev pub budgetArgument : ℕ → Bytes → ℕ
-budgetArgument i l = when ltb (arguments l) i then 255 else byteArgument i l
+abbrev pub budget_argument : ℕ → Bytes → ℕ
+budget_argument i l = when ltb (arguments l) i then 255 else byte_argument i l
 
 -- The length of a write's data: "at most 512".
-abbrev pub dataLength : Bytes → ℕ
-dataLength l = min (argument 5 l) 512
+abbrev pub data_length : Bytes → ℕ
+data_length l = min (argument 5 l) 512
 
 -- f 0, f 1, .., f (n − 1)
 unfoldable pub values : (ℕ → ℕ) → (n : ℕ) → Bytes
@@ -30,43 +30,43 @@ abbrev pub ramp : (seed : ℕ) → (n : ℕ) → Bytes
 ramp seed n = values (λ i. (seed + i) % 256) n
 
 -- What a write line stores.
-abbrev pub lineData : Bytes → Bytes
-lineData l = ramp (byteArgument 4 l) (dataLength l)
+abbrev pub line_data : Bytes → Bytes
+line_data l = ramp (byte_argument 4 l) (data_length l)
 
 -- Which argument is the file: the one behind the client. A look has no client.
-abbrev pub filePlace : Action → ℕ
-filePlace a = when isLook a then 1 else 2
+abbrev pub file_place : Action → ℕ
+file_place a = when is_look a then 1 else 2
 
 -- Which argument is the BUDGET: the last one. A read and a look have none, and what their budget is says nothing.
-abbrev pub budgetPlace : Action → ℕ
-budgetPlace Action.Begin = 2
-budgetPlace Action.Open = 3
-budgetPlace Action.OpenRead = 3
-budgetPlace Action.Write = 6
-budgetPlace Action.Commit = 2
-budgetPlace Action.Abort = 2
-budgetPlace Action.Read = 4
-budgetPlace Action.Look = 4
+abbrev pub budget_place : Action → ℕ
+budget_place Action.Begin = 2
+budget_place Action.Open = 3
+budget_place Action.OpenRead = 3
+budget_place Action.Write = 6
+budget_place Action.Commit = 2
+budget_place Action.Abort = 2
+budget_place Action.Read = 4
+budget_place Action.Look = 4
 
 -- The command of a line: client, file and page come first. Arguments that the call doesn't take say nothing, and so does the client
 -- of a look.
-unfoldable pub lineCommand : Action → Bytes → Command
-lineCommand a l = record {
+unfoldable pub line_command : Action → Bytes → Command
+line_command a l = record {
   action = a;
   crash = false;
-  client = byteArgument 1 l;
-  file = byteArgument (filePlace a) l;
-  page = byteArgument (filePlace a + 1) l;
-  budget = budgetArgument (budgetPlace a) l;
+  client = byte_argument 1 l;
+  file = byte_argument (file_place a) l;
+  page = byte_argument (file_place a + 1) l;
+  budget = budget_argument (budget_place a) l;
 }
 
 -- The step that a line stands for.
-abbrev pub lineStep : Action → Bytes → Step
-lineStep a l = stepOf (lineCommand a l) (lineData l)
+abbrev pub line_step : Action → Bytes → Step
+line_step a l = step_of (line_command a l) (line_data l)
 
 -- The list of a format line: "0 to 64 numbers", from argument 3 on.
-abbrev pub shapeLength : Bytes → ℕ
-shapeLength l = min (arguments l - 2) 64
+abbrev pub shape_length : Bytes → ℕ
+shape_length l = min (arguments l - 2) 64
 
-abbrev pub shapeOf : Bytes → (n : ℕ) → Bytes
-shapeOf l n = values (λ i. byteArgument (i + 3) l) n
+abbrev pub shape_of : Bytes → (n : ℕ) → Bytes
+shape_of l n = values (λ i. byte_argument (i + 3) l) n

@@ -2,12 +2,12 @@
 // passed over. Ruled out: a change of the byte after the last one (`must-fail/poke_past_the_end`); a sector shown that
 // the end of the volume cuts off.
 ghost use Rattle.std.specs.Prelude.{◌≡◌};
-ghost use Rattle.interface.specs.Answers.{countAnswerOf};
-ghost use Rattle.rules.specs.Calls.{queryPart};
+ghost use Rattle.interface.specs.Answers.{count_answer_of};
+ghost use Rattle.rules.specs.Calls.{query_part};
 ghost use Rattle.script.specs.Fields;
-ghost use Rattle.commands.specs.Commands.{queryOf};
-ghost use Rattle.commands.specs.Lines.{lineCommand};
-ghost use Rattle.commands.specs.Inspect.{isRemark, sessionSet, isHold, readingAdded, showsHold, spareAsked, poked, dumped};
+ghost use Rattle.commands.specs.Commands.{query_of};
+ghost use Rattle.commands.specs.Lines.{line_command};
+ghost use Rattle.commands.specs.Inspect.{is_remark, session_set, is_hold, reading_added, shows_hold, spare_asked, poked, dumped};
 
 use crate::lines::{byte_argument, command};
 use crate::{Action, Added};
@@ -17,7 +17,7 @@ use sector::Sector;
 
 // Whether the line is passed over: it is empty or begins with `#`.
 pub fn is_remark(line: &[u8]) -> bool
-    ensures { result ≡ isRemark line.now }
+    ensures { result ≡ is_remark line.now }
 {
     if line.len() == 0 {
         return true;
@@ -28,21 +28,21 @@ pub fn is_remark(line: &[u8]) -> bool
 // `session M`. Ruled out: the holds from before kept; client 4's mark taken for client 1's
 // (`interface/must-fail/bits_from_the_top`).
 pub fn session(line: &[u8]) -> Session
-    ensures { result ≡ sessionSet line.now }
+    ensures { result ≡ session_set line.now }
 {
     interface::session_of(byte_argument(line, 1), [0; 4])
 }
 
 // Whether a session has room for a reading hold of this client and file.
 fn is_hold(k: u8, f: u8) -> bool
-    ensures { result ≡ isHold k f }
+    ensures { result ≡ is_hold k f }
 {
     (1 <= k) & (k <= 4) & ((1 <= f) & (f <= 16))
 }
 
 // `reading K F`. Ruled out: client 0 taken for client 1 (`must-fail/client_0_reads`); the holds from before dropped.
 pub fn reading(s: Session, line: &[u8]) -> Added
-    ensures { result ≡ readingAdded s line.now }
+    ensures { result ≡ reading_added s line.now }
 {
     let k = byte_argument(line, 1);
     let f = byte_argument(line, 2);
@@ -60,7 +60,7 @@ pub fn reading(s: Session, line: &[u8]) -> Added
 
 // `session`: whether it has a line for this client and file. Ruled out: file 17 taken for file 1; a hold of client 0.
 pub fn shows_hold(s: Session, k: u8, f: u8) -> bool
-    ensures { result ≡ showsHold s k f }
+    ensures { result ≡ shows_hold s k f }
 {
     if is_hold(k, f) {
         return sessions::is_reading(s, k, f);
@@ -70,14 +70,14 @@ pub fn shows_hold(s: Session, k: u8, f: u8) -> bool
 
 // `read K F P`, `look F P`: the second call, which hands back the page itself.
 pub fn page<'a>(v: &'a [u8], s: Session, a: Action, line: &[u8]) -> &'a [u8]
-    ensures { result.now ≡ queryPart v.now s (queryOf (lineCommand a line.now)) }
+    ensures { result.now ≡ query_part v.now s (query_of (line_command a line.now)) }
 {
     crate::page(v, s, command(a, line))
 }
 
 // `spare F`. Ruled out: the question about another file (`must-fail/spare_by_another_argument`); the answer to another question.
 pub fn spare(v: &[u8], line: &[u8]) -> CountOutcome
-    ensures { countAnswerOf result ≡ spareAsked v.now line.now }
+    ensures { count_answer_of result ≡ spare_asked v.now line.now }
 {
     calls::spare(v, byte_argument(line, 1))
 }
@@ -91,7 +91,7 @@ fn address(line: &[u8], n: usize) -> usize
 
 // `poke ADDRESS BYTE`: whether there is such an address.
 pub fn poke(v: &mut [u8], line: &[u8]) -> bool
-    ensures { (record { isInside = result; volume = v.new }) ≡ poked v.old line.now }
+    ensures { (record { is_inside = result; volume = v.new }) ≡ poked v.old line.now }
 {
     let at = address(line, 1);
     if v.len() <= at {

@@ -6,8 +6,8 @@ ghost use Rattle.volume.specs.Format;
 ghost use Rattle.format.specs.Outcomes.{formatted};
 ghost use Rattle.atomicity.specs.Model.{Model};
 ghost use Rattle.script.specs.Fields;
-ghost use Rattle.commands.specs.Commands.{runOf, IsPerformed};
-ghost use Rattle.commands.specs.Lines.{byteArgument, budgetArgument, filePlace, budgetPlace, lineCommand, lineStep, dataLength, shapeLength, shapeOf, ramp};
+ghost use Rattle.commands.specs.Commands.{run_of, IsPerformed};
+ghost use Rattle.commands.specs.Lines.{byte_argument, budget_argument, file_place, budget_place, line_command, line_step, data_length, shape_length, shape_of, ramp};
 
 use crate::{Action, Command, Performed, is_look, perform};
 use interface::{FormatOutcome, Session};
@@ -16,7 +16,7 @@ use sector::{low, wide};
 
 // Argument n as a byte.
 pub fn byte_argument(line: &[u8], n: usize) -> u8
-    ensures { result ≡ byteArgument n line.now }
+    ensures { result ≡ byte_argument n line.now }
 {
     let x = argument(line, n);
     if x < 255 {
@@ -27,7 +27,7 @@ pub fn byte_argument(line: &[u8], n: usize) -> u8
 
 // Argument n as a budget, and 255 if it is left out.
 fn budget(line: &[u8], n: usize) -> u8
-    ensures { result ≡ budgetArgument n line.now }
+    ensures { result ≡ budget_argument n line.now }
 {
     if arguments(line) < n {
         return 255;
@@ -37,7 +37,7 @@ fn budget(line: &[u8], n: usize) -> u8
 
 // Which argument of the line is its file. Ruled out: a look's page taken for its file (`must-fail/look_behind_a_client`).
 fn file_place(a: Action) -> usize
-    ensures { (result ≡ filePlace a) × (result ≤ 2) }
+    ensures { (result ≡ file_place a) × (result ≤ 2) }
 {
     if is_look(a) {
         return 1;
@@ -47,7 +47,7 @@ fn file_place(a: Action) -> usize
 
 // Which argument of the line is its budget.
 fn budget_place(a: Action) -> usize
-    ensures { result ≡ budgetPlace a }
+    ensures { result ≡ budget_place a }
 {
     match a {
         Action::Begin => 2,
@@ -63,7 +63,7 @@ fn budget_place(a: Action) -> usize
 
 // The command of a line. Arguments that it doesn't take are ignored.
 pub fn command(a: Action, line: &[u8]) -> Command
-    ensures { result ≡ lineCommand a line.now }
+    ensures { result ≡ line_command a line.now }
 {
     let at = file_place(a);
     Command {
@@ -91,7 +91,7 @@ fn fill(buf: &mut [u8; 512], seed: u8, n: usize)
 
 // The length of a write's data.
 fn data_length(line: &[u8]) -> usize
-    ensures { (result ≡ dataLength line.now) × (result ≤ 512) }
+    ensures { (result ≡ data_length line.now) × (result ≤ 512) }
 {
     let x = argument(line, 5);
     if x < 512 {
@@ -103,7 +103,7 @@ fn data_length(line: &[u8]) -> usize
 // `begin K [BUDGET]`, `open K F [BUDGET]`, `open_read K F [BUDGET]`, the first call of `read K F P` and of `look F P`,
 // `write K F P SEED LENGTH [BUDGET]`, `commit K [BUDGET]`, `abort K [BUDGET]`.
 pub fn perform_line(v: &mut [u8], s: Session, a: Action, line: &[u8]) -> Performed
-    ensures { (m : Model) → IsPerformed (runOf v.old s m) (lineStep a line.now) result v.new }
+    ensures { (m : Model) → IsPerformed (run_of v.old s m) (line_step a line.now) result v.new }
 {
     let mut data = [0u8; 512];
     let n = data_length(line);
@@ -113,7 +113,7 @@ pub fn perform_line(v: &mut [u8], s: Session, a: Action, line: &[u8]) -> Perform
 
 // The number of bytes in a format's list.
 fn shape_length(line: &[u8]) -> usize
-    ensures { (result ≡ shapeLength line.now) × (result ≤ 64) }
+    ensures { (result ≡ shape_length line.now) × (result ≤ 64) }
 {
     let n = arguments(line);
     if n < 2 {
@@ -128,7 +128,7 @@ fn shape_length(line: &[u8]) -> usize
 // The first n bytes become the list of a format.
 fn fill_shape(buf: &mut [u8; 64], line: &[u8], n: usize)
     requires { (length buf.old ≡ 64) × (n ≤ 64) }
-    ensures buf_after { (take n buf.new ≡ shapeOf line.now n) × (length buf.new ≡ 64) }
+    ensures buf_after { (take n buf.new ≡ shape_of line.now n) × (length buf.new ≡ 64) }
     ensures n_in_bounds { (n ≤ length buf.new) × (n ≡ length (take n buf.new)) }
 {
     let mut i = 0;
@@ -140,8 +140,8 @@ fn fill_shape(buf: &mut [u8; 64], line: &[u8], n: usize)
 
 // `format LENGTH T P R P R ..`, on the array lent.
 pub fn format(v: &mut [u8], line: &[u8]) -> FormatOutcome
-    ensures { formatted result v.new ≡ Format.format v.old (byteArgument 2 line.now)
-        (shapeOf line.now (shapeLength line.now)) }
+    ensures { formatted result v.new ≡ Format.format v.old (byte_argument 2 line.now)
+        (shape_of line.now (shape_length line.now)) }
 {
     let mut shape = [0u8; 64];
     let n = shape_length(line);

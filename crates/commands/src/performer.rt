@@ -1,13 +1,13 @@
 // A command performed by the call that it is. Its contract is the definition's step, so whatever is claimed of lists of
 // steps holds for everything that performs its calls here.
 ghost use Rattle.std.specs.Prelude.{◌≡◌};
-ghost use Rattle.interface.specs.Answers.{answerOf};
-ghost use Rattle.rules.specs.Calls.{queryPart};
+ghost use Rattle.interface.specs.Answers.{answer_of};
+ghost use Rattle.rules.specs.Calls.{query_part};
 ghost use Rattle.atomicity.specs.Model.{Model};
 ghost use Rattle.atomicity.specs.Runs.{given};
-ghost use Rattle.atomicity.specs.Transcripts.{ofCall};
+ghost use Rattle.atomicity.specs.Transcripts.{of_call};
 ghost use Rattle.commands.specs.declared.Told.{Told};
-ghost use Rattle.commands.specs.Commands.{isLook, queryOf, stepOf, runOf, toldOf, IsPerformed};
+ghost use Rattle.commands.specs.Commands.{is_look, query_of, step_of, run_of, told_of, IsPerformed};
 
 use crate::{Action, Command, Performed, Told};
 use interface::{QueryOutcome, Reply, Session};
@@ -24,7 +24,7 @@ fn given_session(s: Session, crash: bool) -> Session
 
 // What a call that hands back a session answered.
 fn told(r: Reply) -> Performed
-    ensures { (toldOf result.told ≡ ofCall (answerOf r.outcome)) × (result.session ≡ r.session) }
+    ensures { (told_of result.told ≡ of_call (answer_of r.outcome)) × (result.session ≡ r.session) }
 {
     let o = r.outcome;
     let s = r.session;
@@ -47,7 +47,7 @@ fn asked(o: QueryOutcome, s: Session) -> Performed
 // Performs the command; `bytes` is what a write stores. The contract is for every model, since no byte depends on it.
 // Ruled out: the session that a read was given passed on (`must-fail/read_hands_on_its_session`); a read left out.
 pub fn perform(v: &mut [u8], s: Session, c: Command, bytes: &[u8]) -> Performed
-    ensures { (m : Model) → IsPerformed (runOf v.old s m) (stepOf c bytes.now) result v.new }
+    ensures { (m : Model) → IsPerformed (run_of v.old s m) (step_of c bytes.now) result v.new }
 {
     let g = given_session(s, c.crash);
     let a = c.action;
@@ -65,7 +65,7 @@ pub fn perform(v: &mut [u8], s: Session, c: Command, bytes: &[u8]) -> Performed
 
 // Whether the call is a look.
 pub fn is_look(a: Action) -> bool
-    ensures { result ≡ isLook a }
+    ensures { result ≡ is_look a }
 {
     match a {
         Action::Begin => false,
@@ -82,7 +82,7 @@ pub fn is_look(a: Action) -> bool
 // The second call of a question: the page itself, or an empty part where the question is refused. Ruled out: a look's page taken as
 // a client's read (`must-fail/look_reads`).
 pub fn page<'a>(v: &'a [u8], s: Session, c: Command) -> &'a [u8]
-    ensures { result.now ≡ queryPart v.now (given c.crash s) (queryOf c) }
+    ensures { result.now ≡ query_part v.now (given c.crash s) (query_of c) }
 {
     let a = c.action;
     if is_look(a) {

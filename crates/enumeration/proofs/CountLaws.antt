@@ -9,78 +9,78 @@ use borrow.Author.Tests.{leb-true, eqb-true}
 use lib.Dec.{eqb, leb}
 use lib.ListN.{length, get_or, length-map, get_or-map}
 use Rattle.lists.specs.Lists.{all, every, filter}
-use Rattle.sector.specs.Layout.{entryLimit}
+use Rattle.sector.specs.Layout.{entry_limit}
 use Rattle.sector.specs.Contents.{Record, Header}
-use Rattle.sector.specs.Sectors.{sector, padded, zeroSector}
-use Rattle.sector.specs.Encoding.{fileBytes, encodeTable, entryBytes, encodeRecord, encodeHeader}
-use Rattle.volume.specs.Places.{sectorAfter}
-use Rattle.volume.specs.Lawful.{recordFits, headerFits}
+use Rattle.sector.specs.Sectors.{sector, padded, zero_sector}
+use Rattle.sector.specs.Encoding.{file_bytes, encode_table, entry_bytes, encode_record, encode_header}
+use Rattle.volume.specs.Places.{sector_after}
+use Rattle.volume.specs.Lawful.{record_fits, header_fits}
 use Rattle.volume.specs.Volumes.{Volume}
 use Rattle.volume.specs.Sound.{sound}
-use Rattle.volume.specs.Assembled.{fileOwners, owners, joined}
-use Rattle.enumeration.specs.Lists.{In, listsOf}
-use Rattle.enumeration.specs.Choices.{smallFile, smallTable, entryChoices, entryLists, recordChoices, mapChoices, headerChoices}
-use Rattle.enumeration.specs.Small.{smallVolume, candidates, smallVolumes}
-use Rattle.enumeration.specs.Statements.{Only, orderBytes, InOrder, Once, Counted}
-use Rattle.enumeration.proofs.MemberLaws.{every-in, filter-has}
-use Rattle.enumeration.proofs.PairLaws.{pairs-case, pairs-filter}
-use Rattle.enumeration.proofs.SmallLaws.{small-length, small-table, small-slot, sound-just}
-use Rattle.enumeration.proofs.OrderLaws.{not-itself, rising, rising-all}
+use Rattle.volume.specs.Assembled.{file_owners, owners, joined}
+use Rattle.enumeration.specs.Lists.{In, lists_of}
+use Rattle.enumeration.specs.Choices.{small_file, small_table, entry_choices, entry_lists, record_choices, map_choices, header_choices}
+use Rattle.enumeration.specs.Small.{small_volume, candidates, small_volumes}
+use Rattle.enumeration.specs.Statements.{Only, order_bytes, InOrder, Once, Counted}
+use Rattle.enumeration.proofs.MemberLaws.{every_in, filter_has}
+use Rattle.enumeration.proofs.PairLaws.{pairs_case, pairs_filter}
+use Rattle.enumeration.proofs.SmallLaws.{small_length, small_table_lem, small_slot, sound_just}
+use Rattle.enumeration.proofs.OrderLaws.{not_itself, rising, rising_all}
 
 -- ------------------------------------------------------------------ the choices
-records-few : every (λ r. leb (length r.entries) entryLimit) recordChoices ≡ true
-unfolding flat_map listsOf entryChoices entryLists recordChoices
-records-few = refl
+records_few : every (λ r. leb (length r.entries) entry_limit) record_choices ≡ true
+unfolding flat_map lists_of entry_choices entry_lists record_choices
+records_few = refl
 
-record-few : (r : Record) → In r recordChoices → length r.entries ≤ entryLimit
-record-few r p = leb-true _ _ (every-in (λ r. leb (length r.entries) entryLimit) records-few p)
+record_few : (r : Record) → In r record_choices → length r.entries ≤ entry_limit
+record_few r p = leb-true _ _ (every_in (λ r. leb (length r.entries) entry_limit) records_few p)
 
-headers-full : every (λ h. eqb (length h.map) smallFile.pages) headerChoices ≡ true
-unfolding flat_map listsOf mapChoices headerChoices
-headers-full = refl
+headers_full : every (λ h. eqb (length h.map) small_file.pages) header_choices ≡ true
+unfolding flat_map lists_of map_choices header_choices
+headers_full = refl
 
-header-full : (h : Header) → In h headerChoices → length h.map ≡ smallFile.pages
-header-full h p = eqb-true _ _ (every-in (λ h. eqb (length h.map) smallFile.pages) headers-full p)
+header_full : (h : Header) → In h header_choices → length h.map ≡ small_file.pages
+header_full h p = eqb-true _ _ (every_in (λ h. eqb (length h.map) small_file.pages) headers_full p)
 
-pub candidate-length : (v : Volume) → In v candidates → length v ≡ 1536
+pub candidate_length : (v : Volume) → In v candidates → length v ≡ 1536
 unfolding candidates
-candidate-length v p = pairs-case smallVolume headerChoices recordChoices p (λ r m h n e. rw e (small-length r h (record-few r m) (header-full h n)))
+candidate_length v p = pairs_case small_volume header_choices record_choices p (λ r m h n e. rw e (small_length r h (record_few r m) (header_full h n)))
 
 -- ------------------------------------------------------------------ the volumes that fit
 unfoldable pub fitted : List Volume
-fitted = flat_map (λ r. map (smallVolume r) (filter (headerFits (λ k. r) smallTable 1) headerChoices)) (filter (recordFits smallTable) recordChoices)
+fitted = flat_map (λ r. map (small_volume r) (filter (header_fits (λ k. r) small_table 1) header_choices)) (filter (record_fits small_table) record_choices)
 
-pub volumes-fitted : smallVolumes ≡ fitted
-unfolding smallVolumes candidates fitted
-volumes-fitted = pairs-filter smallVolume headerChoices sound (recordFits smallTable) (λ r h. headerFits (λ k. r) smallTable 1 h) recordChoices
-    (λ r p h q. sound-just r h (record-few r p) (header-full h q))
+pub volumes_fitted : small_volumes ≡ fitted
+unfolding small_volumes candidates fitted
+volumes_fitted = pairs_filter small_volume header_choices sound (record_fits small_table) (λ r h. header_fits (λ k. r) small_table 1 h) record_choices
+    (λ r p h q. sound_just r h (record_few r p) (header_full h q))
 
 pub counted : Counted
-unfolding all flat_map listsOf entryChoices entryLists recordChoices mapChoices headerChoices fitted
-counted = ap length volumes-fitted
+unfolding all flat_map lists_of entry_choices entry_lists record_choices map_choices header_choices fitted
+counted = ap length volumes_fitted
 
 -- ------------------------------------------------------------------ in order, so each once
-fitted-rising : rising (map orderBytes fitted) ≡ true
-unfolding all flat_map listsOf entryChoices entryLists recordChoices mapChoices headerChoices fitted smallVolume sector padded zeroSector fileBytes encodeTable entryBytes encodeRecord encodeHeader fileOwners owners joined sectorAfter
-fitted-rising = refl
+fitted_rising : rising (map order_bytes fitted) ≡ true
+unfolding all flat_map lists_of entry_choices entry_lists record_choices map_choices header_choices fitted small_volume sector padded zero_sector file_bytes encode_table entry_bytes encode_record encode_header file_owners owners joined sector_after
+fitted_rising = refl
 
-pub in-order : InOrder
-in-order i j lt below =
-    let size : length (map orderBytes fitted) ≡ length fitted = length-map fitted orderBytes in
-    let here : j < length fitted = rw volumes-fitted at below in
-    rw volumes-fitted (rw (get_or-map orderBytes fitted i [], get_or-map orderBytes fitted j []) at
-    (rising-all (orderBytes []) (map orderBytes fitted) fitted-rising i j lt (omega arith)))
+pub in_order : InOrder
+in_order i j lt below =
+    let size : length (map order_bytes fitted) ≡ length fitted = length-map fitted order_bytes in
+    let here : j < length fitted = rw volumes_fitted at below in
+    rw volumes_fitted (rw (get_or-map order_bytes fitted i [], get_or-map order_bytes fitted j []) at
+    (rising_all (order_bytes []) (map order_bytes fitted) fitted_rising i j lt (omega arith)))
 
 pub once : Once
-once i j lt below e = not-itself (orderBytes (get_or smallVolumes j [])) (rw e at (in-order i j lt below))
+once i j lt below e = not_itself (order_bytes (get_or small_volumes j [])) (rw e at (in_order i j lt below))
 
 -- ------------------------------------------------------------------ no other volume
 pub only : Only
-unfolding smallVolumes candidates
+unfolding small_volumes candidates
 only v p =
-    let q = filter-has sound candidates p in
-    pairs-case smallVolume headerChoices recordChoices q.1
+    let q = filter_has sound candidates p in
+    pairs_case small_volume header_choices record_choices q.1
     (λ r m h n e.
-    let few = record-few r m in
-    let full = header-full h n in
-    rw e (record { is-sound = rw e at q.0; table = small-table r h few full; zeros = small-slot r h few full }))
+    let few = record_few r m in
+    let full = header_full h n in
+    rw e (record { is_sound = rw e at q.0; table = small_table_lem r h few full; zeros = small_slot r h few full }))

@@ -4,8 +4,8 @@ use Rattle.lists.specs.Lists.{when◌then◌else◌, filter}
 use Rattle.volume.specs.Volumes.{Volume}
 use Rattle.volume.specs.Sound.{sound}
 use Rattle.enumeration.specs.declared.AdvanceOutcome.{AdvanceOutcome}
-use Rattle.enumeration.specs.Choices.{smallTable}
-use Rattle.enumeration.specs.Small.{candidates, smallVolumes}
+use Rattle.enumeration.specs.Choices.{small_table}
+use Rattle.enumeration.specs.Small.{candidates, small_volumes}
 
 -- The answer, and the array afterwards.
 pub record Advanced : Type 0 where
@@ -13,32 +13,32 @@ pub record Advanced : Type 0 where
   pub volume : Volume
 
 -- The number of the first sound one of these volumes, if the first has number n; if none is sound, n and their number together.
-unfoldable pub firstSound : ℕ → List Volume → ℕ
-firstSound n [] = n
-firstSound n (c ∷ cs) = when sound c then n else firstSound (suc n) cs
+unfoldable pub first_sound : ℕ → List Volume → ℕ
+first_sound n [] = n
+first_sound n (c ∷ cs) = when sound c then n else first_sound (suc n) cs
 
 -- The array becomes candidate i, and the next advance is to begin behind it; if there is no candidate i, nothing changes.
-abbrev pub advanceTo : Volume → (i : ℕ) → Advanced
-advanceTo v i =
+abbrev pub advance_to : Volume → (i : ℕ) → Advanced
+advance_to v i =
     when ltb i (length candidates) then record { answer = AdvanceOutcome.To (suc i); volume = get_or candidates i [] }
     else record { answer = AdvanceOutcome.End; volume = v }
 
 -- From number n on: the array becomes the first candidate that is sound. An array of another length stays as it is.
 unfoldable pub advance : Volume → (n : ℕ) → Advanced
 advance v n =
-    when eqb (length v) (256 * smallTable.sectors) then advanceTo v (firstSound n (drop n candidates))
+    when eqb (length v) (256 * small_table.sectors) then advance_to v (first_sound n (drop n candidates))
     else record { answer = AdvanceOutcome.BadLength; volume = v }
 
 -- The volume that an advance put into the array, and then those of the advances after it.
-abbrev pub volumesFrom : (later : Volume → ℕ → List Volume) → AdvanceOutcome → Volume → List Volume
-volumesFrom later (AdvanceOutcome.To n) v = v ∷ later v n
-volumesFrom later AdvanceOutcome.End v = []
-volumesFrom later AdvanceOutcome.BadLength v = []
+abbrev pub volumes_from : (later : Volume → ℕ → List Volume) → AdvanceOutcome → Volume → List Volume
+volumes_from later (AdvanceOutcome.To n) v = v ∷ later v n
+volumes_from later AdvanceOutcome.End v = []
+volumes_from later AdvanceOutcome.BadLength v = []
 
 -- The volumes that so many advances put into the array v, the first from number n on and each next one from the number answered.
 unfoldable pub walked : (times : ℕ) → Volume → (n : ℕ) → List Volume
 walked zero v n = []
-walked (suc times) v n = volumesFrom (walked times) (advance v n).answer (advance v n).volume
+walked (suc times) v n = volumes_from (walked times) (advance v n).answer (advance v n).volume
 
 -- ------------------------------------------------------------------ what is claimed
 -- How many small volumes stand before candidate n.
@@ -47,13 +47,13 @@ passed n = length (filter sound (take n candidates))
 
 -- From any number on: the array becomes the small volume behind those passed, if there is one, and else stays as it is.
 abbrev pub PutsNext : Type 0
-PutsNext = (v : Volume) (n : ℕ) → length v ≡ 256 * smallTable.sectors → advance v n
-    ≡ (when ltb (passed n) (length smallVolumes) then record {
-      answer = AdvanceOutcome.To (suc (firstSound n (drop n candidates)));
-      volume = get_or smallVolumes (passed n) [];
+PutsNext = (v : Volume) (n : ℕ) → length v ≡ 256 * small_table.sectors → advance v n
+    ≡ (when ltb (passed n) (length small_volumes) then record {
+      answer = AdvanceOutcome.To (suc (first_sound n (drop n candidates)));
+      volume = get_or small_volumes (passed n) [];
     } else record { answer = AdvanceOutcome.End; volume = v })
 
 -- So many advances put so many small volumes into the array, those behind the ones passed, in order; if there are fewer, all of
 -- them. From number 0 on nothing is passed, and it is the list from its beginning.
 abbrev pub Walks : Type 0
-Walks = (v : Volume) → length v ≡ 256 * smallTable.sectors → (times n : ℕ) → walked times v n ≡ take times (drop (passed n) smallVolumes)
+Walks = (v : Volume) → length v ≡ 256 * small_table.sectors → (times n : ℕ) → walked times v n ≡ take times (drop (passed n) small_volumes)

@@ -7,6 +7,6 @@ abbrev pub In : {A : Type 0} → A → List A → Type 0
 In x xs = Memᴰ x xs
 
 -- All lists of n of these; the first element varies slowest.
-unfoldable pub listsOf : {A : Type 0} → ℕ → List A → List (List A)
-listsOf zero xs = [] ∷ []
-listsOf (suc n) xs = flat_map (λ x. map (λ l. x ∷ l) (listsOf n xs)) xs
+unfoldable pub lists_of : {A : Type 0} → ℕ → List A → List (List A)
+lists_of zero xs = [] ∷ []
+lists_of (suc n) xs = flat_map (λ x. map (λ l. x ∷ l) (lists_of n xs)) xs

@@ -1,15 +1,15 @@
 // A candidate made in an array: the layout of the small shape, then the record and the header of its number. Numbers are taken
 // apart by division, as the lists of choices are put together: the last part varies fastest.
 ghost use Rattle.std.specs.Prelude.{◌≡◌, [], ◌*◌, ◌<◌, length, get_or};
-ghost use Rattle.sector.specs.Layout.{entryLimit};
-ghost use Rattle.sector.specs.Contents.{Record, idleRecord, appended};
-ghost use Rattle.sector.specs.Sectors.{zeroSector};
-ghost use Rattle.sector.specs.Encoding.{encodeRecord, encodeHeader};
-ghost use Rattle.sector.specs.Decoding.{countIn};
-ghost use Rattle.volume.specs.Views.{noHeader, setRecord, setHeader};
+ghost use Rattle.sector.specs.Layout.{entry_limit};
+ghost use Rattle.sector.specs.Contents.{Record, idle_record, appended};
+ghost use Rattle.sector.specs.Sectors.{zero_sector};
+ghost use Rattle.sector.specs.Encoding.{encode_record, encode_header};
+ghost use Rattle.sector.specs.Decoding.{count_in};
+ghost use Rattle.volume.specs.Views.{no_header, set_record, set_header};
 ghost use Rattle.volume.specs.Stores.{updated};
-ghost use Rattle.volume.specs.WellFormed.{noEntry};
-ghost use Rattle.enumeration.specs.Choices.{smallFile, smallTable, entryChoices, entryLists, recordChoices, headerChoices};
+ghost use Rattle.volume.specs.WellFormed.{no_entry};
+ghost use Rattle.enumeration.specs.Choices.{small_file, small_table, entry_choices, entry_lists, record_choices, header_choices};
 ghost use Rattle.enumeration.specs.Small.{candidates};
 
 use crate::Small;
@@ -19,8 +19,8 @@ use sector::{append_entry, empty_record, new_header, set_holder, set_map_slot, s
 
 // Entry e is appended to the record.
 fn append_choice(buf: &mut [u8; 256], e: usize)
-    requires { (length buf.old ≡ 256) × (countIn buf.old < entryLimit) × (e < length entryChoices) }
-    ensures buf_after { (r : Record) → buf.old ≡ encodeRecord r → buf.new ≡ encodeRecord (appended r (get_or entryChoices e noEntry)) }
+    requires { (length buf.old ≡ 256) × (count_in buf.old < entry_limit) × (e < length entry_choices) }
+    ensures buf_after { (r : Record) → buf.old ≡ encode_record r → buf.new ≡ encode_record (appended r (get_or entry_choices e no_entry)) }
     ensures buf_len { length buf.new ≡ 256 }
 {
     let entry = entry_at(e);
@@ -30,8 +30,8 @@ fn append_choice(buf: &mut [u8; 256], e: usize)
 // The record with this state and the entries of this list, made of zeros. A list that isn't empty is an earlier one with one
 // entry more: after the empty list there is, for each list in order, that list with each entry.
 fn build_record(buf: &mut [u8; 256], state: u8, list: usize)
-    requires { (buf.old ≡ zeroSector) × (list < length entryLists) }
-    ensures buf_after { buf.new ≡ encodeRecord (record { state = state; entries = get_or entryLists list [] }) }
+    requires { (buf.old ≡ zero_sector) × (list < length entry_lists) }
+    ensures buf_after { buf.new ≡ encode_record (record { state = state; entries = get_or entry_lists list [] }) }
     ensures buf_len { length buf.new ≡ 256 }
 {
     if list == 0 {
@@ -44,8 +44,8 @@ fn build_record(buf: &mut [u8; 256], state: u8, list: usize)
 
 // Header b, made of zeros.
 fn build_header(buf: &mut [u8; 256], b: usize)
-    requires { (buf.old ≡ zeroSector) × (b < length headerChoices) }
-    ensures buf_after { buf.new ≡ encodeHeader smallFile (get_or headerChoices b noHeader) }
+    requires { (buf.old ≡ zero_sector) × (b < length header_choices) }
+    ensures buf_after { buf.new ≡ encode_header small_file (get_or header_choices b no_header) }
     ensures buf_len { length buf.new ≡ 256 }
 {
     let map = map_at(b % Choices::MAPS);
@@ -58,8 +58,8 @@ fn build_header(buf: &mut [u8; 256], b: usize)
 
 // Record a is stored.
 fn put_record(v: &mut [u8], a: usize)
-    requires { (length v.old ≡ 256 * smallTable.sectors) × (a < length recordChoices) }
-    ensures { v.new ≡ updated smallTable v.old (setRecord 1 (get_or recordChoices a idleRecord)) }
+    requires { (length v.old ≡ 256 * small_table.sectors) × (a < length record_choices) }
+    ensures { v.new ≡ updated small_table v.old (set_record 1 (get_or record_choices a idle_record)) }
 {
     let mut buf = zeros();
     build_record(&mut buf, (a / Choices::LISTS) as u8, a % Choices::LISTS);
@@ -68,8 +68,8 @@ fn put_record(v: &mut [u8], a: usize)
 
 // Header b is stored.
 fn put_header(v: &mut [u8], b: usize)
-    requires { (length v.old ≡ 256 * smallTable.sectors) × (b < length headerChoices) }
-    ensures { v.new ≡ updated smallTable v.old (setHeader 1 (get_or headerChoices b noHeader)) }
+    requires { (length v.old ≡ 256 * small_table.sectors) × (b < length header_choices) }
+    ensures { v.new ≡ updated small_table v.old (set_header 1 (get_or header_choices b no_header)) }
 {
     let mut buf = zeros();
     build_header(&mut buf, b);
@@ -78,7 +78,7 @@ fn put_header(v: &mut [u8], b: usize)
 
 // The array becomes candidate i.
 pub fn make_candidate(v: &mut [u8], i: usize)
-    requires { (length v.old ≡ 256 * smallTable.sectors) × (i < length candidates) }
+    requires { (length v.old ≡ 256 * small_table.sectors) × (i < length candidates) }
     ensures { v.new ≡ get_or candidates i [] }
 {
     let shape = Small::SHAPE;

@@ -1,7 +1,7 @@
 // The choices of `specs/Choices`, each by its number in the list there.
 ghost use Rattle.std.specs.Prelude.{◌≡◌, [], ◌∷◌, ◌<◌, length, get_or};
-ghost use Rattle.volume.specs.WellFormed.{noEntry};
-ghost use Rattle.enumeration.specs.Choices.{entryChoices, mapChoices};
+ghost use Rattle.volume.specs.WellFormed.{no_entry};
+ghost use Rattle.enumeration.specs.Choices.{entry_choices, map_choices};
 
 // How many there are.
 #[derive(Clone, Copy)]
@@ -47,16 +47,16 @@ const MAP_ROWS: [Pair; 9] = [
 
 // Entry e, of file 1.
 pub fn entry_at(e: usize) -> Pair
-    requires { e < length entryChoices }
-    ensures { record { file = 1; page = result.0; slot = result.1 } ≡ get_or entryChoices e noEntry }
+    requires { e < length entry_choices }
+    ensures { record { file = 1; page = result.0; slot = result.1 } ≡ get_or entry_choices e no_entry }
 {
     ENTRY_ROWS[e]
 }
 
 // Map m.
 pub fn map_at(m: usize) -> Pair
-    requires { m < length mapChoices }
-    ensures { result.0 ∷ result.1 ∷ [] ≡ get_or mapChoices m [] }
+    requires { m < length map_choices }
+    ensures { result.0 ∷ result.1 ∷ [] ≡ get_or map_choices m [] }
 {
     MAP_ROWS[m]
 }

@@ -6,9 +6,9 @@ mod candidate;
 mod choices;
 
 ghost use Rattle.std.specs.Prelude.{◌≡◌, ◌*◌, length, drop};
-ghost use Rattle.enumeration.specs.Choices.{smallTable};
-ghost use Rattle.enumeration.specs.Small.{candidates, smallVolumes};
-ghost use Rattle.enumeration.specs.Advances.{firstSound};
+ghost use Rattle.enumeration.specs.Choices.{small_table};
+ghost use Rattle.enumeration.specs.Small.{candidates, small_volumes};
+ghost use Rattle.enumeration.specs.Advances.{first_sound};
 ghost use Rattle.enumeration.specs.Advances;
 
 use crate::candidate::make_candidate;
@@ -45,7 +45,7 @@ impl Small {
 
 // How many small volumes there are. Ruled out: one too many (`must-fail/counts_271`); the number of candidates.
 pub fn count() -> usize
-    ensures { result ≡ length smallVolumes }
+    ensures { result ≡ length small_volumes }
 {
     270
 }
@@ -53,8 +53,8 @@ pub fn count() -> usize
 // The number of the first sound candidate from number `from` on, or a number past the last candidate. Candidates are made in
 // the array.
 fn search(trial: &mut [u8], from: usize) -> usize
-    requires { length trial.old ≡ 256 * smallTable.sectors }
-    ensures { result ≡ firstSound from (drop from candidates) }
+    requires { length trial.old ≡ 256 * small_table.sectors }
+    ensures { result ≡ first_sound from (drop from candidates) }
 {
     let mut i = from;
     while i < Choices::CANDIDATES {
@@ -69,7 +69,7 @@ fn search(trial: &mut [u8], from: usize) -> usize
 
 // The same, with an array of its own.
 fn next_sound(from: usize) -> usize
-    ensures { result ≡ firstSound from (drop from candidates) }
+    ensures { result ≡ first_sound from (drop from candidates) }
 {
     let mut trial = [0u8; Small::LENGTH];
     search(&mut trial, from)

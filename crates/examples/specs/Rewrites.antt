@@ -3,27 +3,27 @@
 use Rattle.std.specs.Prelude.{Bool, List, [], ◌∷◌, ◌++◌, ℕ}
 use Rattle.interface.specs.Answers.{done, refused}
 use Rattle.sector.specs.Contents.{Bytes}
-use Rattle.rules.specs.Plans.{begin, openFile, write, commit, readPage}
+use Rattle.rules.specs.Plans.{begin, open_file, write, commit, read_page}
 use Rattle.atomicity.specs.Runs.{started}
-use Rattle.examples.specs.Scripts.{Fact, answers, finds, sectorIs, decides, played, ended, small}
-use Rattle.examples.specs.Examples.{page, recordBytes, headerBytes, e2}
+use Rattle.examples.specs.Scripts.{Fact, answers, finds, sector_is, decides, played, ended, small}
+use Rattle.examples.specs.Examples.{page, record_bytes, header_bytes, e2}
 
 -- Client k begins and opens both files.
 abbrev opens : (client : ℕ) → List Fact
-opens k = answers (begin k) 255 (done 1) ∷ answers (openFile k 1) 255 (done 1) ∷ answers (openFile k 2) 255 (done 1) ∷ []
+opens k = answers (begin k) 255 (done 1) ∷ answers (open_file k 1) 255 (done 1) ∷ answers (open_file k 2) 255 (done 1) ∷ []
 
 -- Client k commits, and these are the maps of the two files then.
 abbrev commits : (client : ℕ) → (maps1 maps2 : Bytes) → List Fact
-commits k m1 m2 = answers (commit k) 255 (done 4) ∷ sectorIs 3 (headerBytes 0 1 m1) ∷ sectorIs 7 (headerBytes 0 2 m2) ∷ []
+commits k m1 m2 = answers (commit k) 255 (done 4) ∷ sector_is 3 (header_bytes 0 1 m1) ∷ sector_is 7 (header_bytes 0 2 m2) ∷ []
 
 -- Page 0 of file 1 was in slot 2, the last: the search starts at R, and it takes slot 0. Page 0 of file 2 goes from slot 1 to 2.
 abbrev second : List Fact
 second =
     opens 1
     ++ (answers (write 1 1 0 (page 0xA3)) 255 (done 2)
-    ∷ sectorIs 4 (page 0xA3) ∷ sectorIs 1 (recordBytes 1 1 (0x01 ∷ 0x00 ∷ 0x00 ∷ 0x00 ∷ []))
+    ∷ sector_is 4 (page 0xA3) ∷ sector_is 1 (record_bytes 1 1 (0x01 ∷ 0x00 ∷ 0x00 ∷ 0x00 ∷ []))
     ∷ answers (write 1 2 0 (page 0xB3)) 255 (done 2)
-    ∷ sectorIs 10 (page 0xB3) ∷ sectorIs 1 (recordBytes 1 2 (0x01 ∷ 0x00 ∷ 0x00 ∷ 0x00 ∷ 0x02 ∷ 0x00 ∷ 0x02 ∷ 0x00 ∷ []))
+    ∷ sector_is 10 (page 0xB3) ∷ sector_is 1 (record_bytes 1 2 (0x01 ∷ 0x00 ∷ 0x00 ∷ 0x00 ∷ 0x02 ∷ 0x00 ∷ 0x02 ∷ 0x00 ∷ []))
     ∷ [])
     ++ commits 1 (0x00 ∷ 0x01 ∷ []) (0x02 ∷ [])
 
@@ -33,10 +33,10 @@ abbrev third : List Fact
 third =
     opens 2
     ++ (answers (write 2 1 1 (page 0xA4)) 255 (done 2)
-    ∷ sectorIs 6 (page 0xA4)
+    ∷ sector_is 6 (page 0xA4)
     ∷ answers (write 2 1 0 (page 0xA5)) 255 (refused 11)
     ∷ answers (write 2 2 0 (page 0xB4)) 255 (done 2)
-    ∷ sectorIs 8 (page 0xB4)
+    ∷ sector_is 8 (page 0xB4)
     ∷ [])
     ++ commits 2 (0x00 ∷ 0x02 ∷ []) (0x00 ∷ [])
 
@@ -45,13 +45,13 @@ abbrev fourth : List Fact
 fourth =
     opens 1
     ++ (answers (write 1 1 1 (page 0xA6)) 255 (done 2)
-    ∷ finds (readPage 1 1 1) 5 (page 0xA6)
+    ∷ finds (read_page 1 1 1) 5 (page 0xA6)
     ∷ answers (write 1 2 0 (page 0xB6)) 255 (done 2)
-    ∷ finds (readPage 1 2 0) 9 (page 0xB6)
+    ∷ finds (read_page 1 2 0) 9 (page 0xB6)
     ∷ [])
     ++ commits 1 (0x00 ∷ 0x01 ∷ []) (0x01 ∷ [])
     ++ (decides 1 0 (page 0xA3) ∷ decides 1 1 (page 0xA6) ∷ decides 2 0 (page 0xB6) ∷ [])
 
 -- The commit of E5, and the three transactions after it.
-abbrev pub rewritesHold : Bool
-rewritesHold = played (ended (started small) e2) (commits 1 (0x02 ∷ 0x01 ∷ []) (0x01 ∷ []) ++ second ++ third ++ fourth)
+abbrev pub rewrites_hold : Bool
+rewrites_hold = played (ended (started small) e2) (commits 1 (0x02 ∷ 0x01 ∷ []) (0x01 ∷ []) ++ second ++ third ++ fourth)

@@ -9,80 +9,80 @@ use native.Mathlib.Omega.{arith}
 use borrow.Author.Tests.{leb-true}
 use lib.ListN.{length, drop, replicate, length-append, length-replicate}
 use Rattle.lists.specs.Lists.{every}
-use Rattle.sector.specs.Layout.{itemsRoom, pageLimit, entryLimit}
-use Rattle.sector.specs.Contents.{Bytes, File, Table, idleRecord, newHeader}
-use Rattle.sector.specs.Sectors.{storeAt}
-use Rattle.sector.specs.Encoding.{encodeTable, encodeRecord, encodeHeader}
-use Rattle.lists.proofs.ListLaws.{all-at}
-use Rattle.sector.proofs.CodecLaws.{table-length, record-length}
-use Rattle.volume.specs.Places.{sectorAfter, endSector}
-use Rattle.volume.specs.Lawful.{fileFits}
-use Rattle.sector.specs.Shapes.{filesOf, pairAt}
-use Rattle.volume.specs.Format.{repeated, newFiles, newVolume}
-use Rattle.volume.proofs.PlaceLaws.{after-least}
+use Rattle.sector.specs.Layout.{items_room, page_limit, entry_limit}
+use Rattle.sector.specs.Contents.{Bytes, File, Table, idle_record, new_header}
+use Rattle.sector.specs.Sectors.{store_at}
+use Rattle.sector.specs.Encoding.{encode_table, encode_record, encode_header}
+use Rattle.lists.proofs.ListLaws.{all_at}
+use Rattle.sector.proofs.CodecLaws.{table_length, record_length}
+use Rattle.volume.specs.Places.{sector_after, end_sector}
+use Rattle.volume.specs.Lawful.{file_fits}
+use Rattle.sector.specs.Shapes.{files_of, pair_at}
+use Rattle.volume.specs.Format.{repeated, new_files, new_volume}
+use Rattle.volume.proofs.PlaceLaws.{after_least}
 use Rattle.sector.specs.Puts.{Puts}
-use Rattle.sector.proofs.PutsLaws.{puts-zeros, puts-more, puts-store}
-use Rattle.sector.proofs.ShapeLaws.{files-from}
-use Rattle.format.proofs.RequestLaws.{first-fits}
-use Rattle.volume.proofs.FormatLaws.{repeated-length, new-header-length, new-files-length}
+use Rattle.sector.proofs.PutsLaws.{puts_zeros, puts_more, puts_store}
+use Rattle.sector.proofs.ShapeLaws.{files_from_lem}
+use Rattle.format.proofs.RequestLaws.{first_fits}
+use Rattle.volume.proofs.FormatLaws.{repeated_length, new_header_length, new_files_length}
 
 -- ------------------------------------------------------------------ the records
-idle-length : length (encodeRecord idleRecord) ≡ 256
-idle-length = record-length idleRecord (omega arith)
+idle_length : length (encode_record idle_record) ≡ 256
+idle_length = record_length idle_record (omega arith)
 
 -- Record k, then those above it up to n.
-pub records-turn : (n k : ℕ) (b : Bytes) → 1 ≤ k → k ≤ n
-    → (w : Bytes) → Puts (256 * (k + 1)) (repeated (n + 1 - (k + 1)) (encodeRecord idleRecord)) (storeAt b k (encodeRecord idleRecord)) w
-    → Puts (256 * k) (repeated (n + 1 - k) (encodeRecord idleRecord)) b w
+pub records_turn : (n k : ℕ) (b : Bytes) → 1 ≤ k → k ≤ n
+    → (w : Bytes) → Puts (256 * (k + 1)) (repeated (n + 1 - (k + 1)) (encode_record idle_record)) (store_at b k (encode_record idle_record)) w
+    → Puts (256 * k) (repeated (n + 1 - k) (encode_record idle_record)) b w
 unfolding repeated
-records-turn n k b lo hi w rest =
+records_turn n k b lo hi w rest =
     let m : n + 1 - k ≡ suc (n + 1 - (k + 1)) = omega arith in
-    rw m (puts-more (256 * k) (256 * (k + 1)) _ _ b _ w (omega (arith, idle-length)) (puts-store k _ b idle-length) rest)
+    rw m (puts_more (256 * k) (256 * (k + 1)) _ _ b _ w (omega (arith, idle_length)) (puts_store k _ b idle_length) rest)
 
 -- ------------------------------------------------------------------ the files
 -- File i's header is stored in sector h; its slots stay zeros.
-pub files-turn : (l : Bytes) (i h : ℕ) (b : Bytes) → i < length l / 2 → every fileFits (drop i (filesOf l)) ≡ true
-    → (w : Bytes) → Puts (256 * (h + 1 + (pairAt l i).slots)) (newFiles (drop (i + 1) (filesOf l))) (storeAt b h (encodeHeader (pairAt l i) (newHeader (pairAt l i)))) w
-    → Puts (256 * h) (newFiles (drop i (filesOf l))) b w
-unfolding newFiles
-files-turn l i h b lt fits w rest =
-    let x : File = pairAt l i in
-    let full = new-header-length x (first-fits l i lt fits) in
+pub files_turn : (l : Bytes) (i h : ℕ) (b : Bytes) → i < length l / 2 → every file_fits (drop i (files_of l)) ≡ true
+    → (w : Bytes) → Puts (256 * (h + 1 + (pair_at l i).slots)) (new_files (drop (i + 1) (files_of l))) (store_at b h (encode_header (pair_at l i) (new_header (pair_at l i)))) w
+    → Puts (256 * h) (new_files (drop i (files_of l))) b w
+unfolding new_files
+files_turn l i h b lt fits w rest =
+    let x : File = pair_at l i in
+    let full = new_header_length x (first_fits l i lt fits) in
     let e : 256 * (h + 1 + x.slots) ≡ 256 * h + 256 + length (replicate {A = ℕ} (256 * x.slots) 0) = rw (length-replicate {A = ℕ} (256 * x.slots) 0) (omega arith) in
-    rw (files-from l i lt) (puts-more (256 * h) (256 * h + 256) _ _ b _ w (omega (arith, full)) (puts-store h _ b full)
-    (puts-more (256 * h + 256) (256 * (h + 1 + x.slots)) (replicate (256 * x.slots) 0) _ _ _ w e (puts-zeros (256 * h + 256) (256 * x.slots) _) rest))
+    rw (files_from_lem l i lt) (puts_more (256 * h) (256 * h + 256) _ _ b _ w (omega (arith, full)) (puts_store h _ b full)
+    (puts_more (256 * h + 256) (256 * (h + 1 + x.slots)) (replicate (256 * x.slots) 0) _ _ _ w e (puts_zeros (256 * h + 256) (256 * x.slots) _) rest))
 
 -- There is room for its header, and it is in range.
-pub file-room : (l : Bytes) (i h n : ℕ) → i < length l / 2 → 256 * sectorAfter h (drop i (filesOf l)) ≤ n → 256 * h + 256 ≤ n
-unfolding sectorAfter
-file-room l i h n lt room =
-    let r : 256 * sectorAfter (h + 1 + (pairAt l i).slots) (drop (i + 1) (filesOf l)) ≤ n = rw (files-from l i lt) at room in
-    omega (arith, after-least (h + 1 + (pairAt l i).slots) (drop (i + 1) (filesOf l)))
+pub file_room : (l : Bytes) (i h n : ℕ) → i < length l / 2 → 256 * sector_after h (drop i (files_of l)) ≤ n → 256 * h + 256 ≤ n
+unfolding sector_after
+file_room l i h n lt room =
+    let r : 256 * sector_after (h + 1 + (pair_at l i).slots) (drop (i + 1) (files_of l)) ≤ n = rw (files_from_lem l i lt) at room in
+    omega (arith, after_least (h + 1 + (pair_at l i).slots) (drop (i + 1) (files_of l)))
 
-pub file-pages : (l : Bytes) (i : ℕ) → i < length l / 2 → every fileFits (drop i (filesOf l)) ≡ true → (pairAt l i).pages ≤ itemsRoom
-file-pages l i lt fits =
-    let h : (pairAt l i).pages ≤ pageLimit = leb-true _ _ (all-at _ 1 (first-fits l i lt fits)) in
+pub file_pages : (l : Bytes) (i : ℕ) → i < length l / 2 → every file_fits (drop i (files_of l)) ≡ true → (pair_at l i).pages ≤ items_room
+file_pages l i lt fits =
+    let h : (pair_at l i).pages ≤ page_limit = leb-true _ _ (all_at _ 1 (first_fits l i lt fits)) in
     omega arith
 
-pub file-slots : (l : Bytes) (i : ℕ) → i < length l / 2 → every fileFits (drop i (filesOf l)) ≡ true → (pairAt l i).pages ≤ (pairAt l i).slots
-file-slots l i lt fits = leb-true _ _ (all-at _ 2 (first-fits l i lt fits))
+pub file_slots : (l : Bytes) (i : ℕ) → i < length l / 2 → every file_fits (drop i (files_of l)) ≡ true → (pair_at l i).pages ≤ (pair_at l i).slots
+file_slots l i lt fits = leb-true _ _ (all_at _ 2 (first_fits l i lt fits))
 
 -- ------------------------------------------------------------------ all of it
-pub laid-out : (t : Table) (a c e : Bytes) → a ≡ replicate (256 * t.sectors) 0
-    → length t.files ≤ entryLimit → every fileFits t.files ≡ true → endSector t ≤ t.sectors
-    → Puts 256 (repeated t.clients (encodeRecord idleRecord)) (storeAt a 0 (encodeTable t)) c
-    → Puts (256 * (t.clients + 1)) (newFiles t.files) c e
-    → e ≡ newVolume t
-unfolding newVolume Puts
-laid-out t a c e zeros few fits ends records files =
-    let d : Bytes = encodeTable t in
-    let r : Bytes = repeated t.clients (encodeRecord idleRecord) in
-    let f : Bytes = newFiles t.files in
-    let n : ℕ = 256 * (t.sectors - endSector t) in
-    let full : length d ≡ 256 = table-length t few in
-    let rl : length r ≡ 256 * t.clients = repeated-length t.clients (encodeRecord idleRecord) idle-length in
-    let behind : Puts 256 (r ++ f) (storeAt a 0 d) e = puts-more 256 (256 * (t.clients + 1)) r f _ c e (omega arith) records files in
-    let whole : Puts 0 (d ++ (r ++ f)) a e = puts-more 0 256 d (r ++ f) a _ e (omega arith) (puts-store 0 d a full) behind in
+pub laid_out : (t : Table) (a c e : Bytes) → a ≡ replicate (256 * t.sectors) 0
+    → length t.files ≤ entry_limit → every file_fits t.files ≡ true → end_sector t ≤ t.sectors
+    → Puts 256 (repeated t.clients (encode_record idle_record)) (store_at a 0 (encode_table t)) c
+    → Puts (256 * (t.clients + 1)) (new_files t.files) c e
+    → e ≡ new_volume t
+unfolding new_volume Puts
+laid_out t a c e zeros few fits ends records files =
+    let d : Bytes = encode_table t in
+    let r : Bytes = repeated t.clients (encode_record idle_record) in
+    let f : Bytes = new_files t.files in
+    let n : ℕ = 256 * (t.sectors - end_sector t) in
+    let full : length d ≡ 256 = table_length t few in
+    let rl : length r ≡ 256 * t.clients = repeated_length t.clients (encode_record idle_record) idle_length in
+    let behind : Puts 256 (r ++ f) (store_at a 0 d) e = puts_more 256 (256 * (t.clients + 1)) r f _ c e (omega arith) records files in
+    let whole : Puts 0 (d ++ (r ++ f)) a e = puts_more 0 256 d (r ++ f) a _ e (omega arith) (puts_store 0 d a full) behind in
     let size : length (d ++ (r ++ f)) + n ≡ 256 * t.sectors =
-    omega (arith, length-append d (r ++ f), length-append r f, new-files-length t.files (t.clients + 1) fits) in
+    omega (arith, length-append d (r ++ f), length-append r f, new_files_length t.files (t.clients + 1) fits) in
     whole [] n refl (zeros ∙ rw size) ∙ rw (append_assoc d (r ++ f) (replicate n 0), append_assoc r f (replicate n 0))

@@ -6,37 +6,37 @@ use Prim.Native.Nat.{ℕ, ◌+◌, ◌/◌, ◌≤◌, ◌<◌}
 use lib.ListN.{length, drop}
 use Rattle.lists.specs.Lists.{every}
 use Rattle.sector.specs.Contents.{Bytes}
-use Rattle.sector.specs.Shapes.{filesOf, pairAt}
-use Rattle.lists.proofs.ListLaws.{and-left, and-right}
-use Rattle.sector.proofs.ShapeLaws.{files-from, files-end}
-use Rattle.volume.specs.Places.{sectorAfter}
-use Rattle.volume.specs.Lawful.{fileFits}
+use Rattle.sector.specs.Shapes.{files_of, pair_at}
+use Rattle.lists.proofs.ListLaws.{and_left, and_right}
+use Rattle.sector.proofs.ShapeLaws.{files_from_lem, files_end}
+use Rattle.volume.specs.Places.{sector_after}
+use Rattle.volume.specs.Lawful.{file_fits}
 
 -- ------------------------------------------------------------------ whether each file fits
 module _ (l : Bytes) (i : ℕ) where
-  pub fits-turn : i < length l / 2 → fileFits (pairAt l i) ≡ true
-      → every fileFits (drop i (filesOf l)) ≡ every fileFits (drop (i + 1) (filesOf l))
-  fits-turn h e = rw (files-from l i h, e)
+  pub fits_turn : i < length l / 2 → file_fits (pair_at l i) ≡ true
+      → every file_fits (drop i (files_of l)) ≡ every file_fits (drop (i + 1) (files_of l))
+  fits_turn h e = rw (files_from_lem l i h, e)
 
-  pub fits-stop : i < length l / 2 → fileFits (pairAt l i) ≡ false → every fileFits (drop i (filesOf l)) ≡ false
-  fits-stop h e = rw (files-from l i h, e)
+  pub fits_stop : i < length l / 2 → file_fits (pair_at l i) ≡ false → every file_fits (drop i (files_of l)) ≡ false
+  fits_stop h e = rw (files_from_lem l i h, e)
 
-  pub fits-end : length l / 2 ≤ i → every fileFits (drop i (filesOf l)) ≡ true
-  fits-end h = rw (files-end l i h)
+  pub fits_end : length l / 2 ≤ i → every file_fits (drop i (files_of l)) ≡ true
+  fits_end h = rw (files_end l i h)
 
   -- Where all from i on fit, file i fits, and those behind it.
-  pub first-fits : i < length l / 2 → every fileFits (drop i (filesOf l)) ≡ true → fileFits (pairAt l i) ≡ true
-  first-fits h e = and-left (fileFits (pairAt l i)) _ (rw (files-from l i h) at e)
+  pub first_fits : i < length l / 2 → every file_fits (drop i (files_of l)) ≡ true → file_fits (pair_at l i) ≡ true
+  first_fits h e = and_left (file_fits (pair_at l i)) _ (rw (files_from_lem l i h) at e)
 
-  pub rest-fits : i < length l / 2 → every fileFits (drop i (filesOf l)) ≡ true → every fileFits (drop (i + 1) (filesOf l)) ≡ true
-  rest-fits h e = and-right (fileFits (pairAt l i)) _ (rw (files-from l i h) at e)
+  pub rest_fits : i < length l / 2 → every file_fits (drop i (files_of l)) ≡ true → every file_fits (drop (i + 1) (files_of l)) ≡ true
+  rest_fits h e = and_right (file_fits (pair_at l i)) _ (rw (files_from_lem l i h) at e)
 
   -- ------------------------------------------------------------------ where the files end
-  pub after-turn : (s : ℕ) → i < length l / 2
-      → sectorAfter (s + 1 + (pairAt l i).slots) (drop (i + 1) (filesOf l)) ≡ sectorAfter s (drop i (filesOf l))
-  unfolding sectorAfter
-  after-turn s h = rw (files-from l i h)
+  pub after_turn : (s : ℕ) → i < length l / 2
+      → sector_after (s + 1 + (pair_at l i).slots) (drop (i + 1) (files_of l)) ≡ sector_after s (drop i (files_of l))
+  unfolding sector_after
+  after_turn s h = rw (files_from_lem l i h)
 
-  pub after-end : (s : ℕ) → length l / 2 ≤ i → sectorAfter s (drop i (filesOf l)) ≡ s
-  unfolding sectorAfter
-  after-end s h = rw (files-end l i h)
+  pub after_end : (s : ℕ) → length l / 2 ≤ i → sector_after s (drop i (files_of l)) ≡ s
+  unfolding sector_after
+  after_end s h = rw (files_end l i h)

@@ -1,19 +1,19 @@
 // Whether what is asked for can be laid out: the array's length, the number of clients, and the list of files.
 ghost use Rattle.std.specs.Prelude.{◌≡◌, ◌*◌, ◌≤◌, length};
 ghost use Rattle.lists.specs.Lists.{every};
-ghost use Rattle.sector.specs.Layout.{fileLimit};
-ghost use Rattle.sector.specs.Contents.{firstHeader};
-ghost use Rattle.volume.specs.Places.{sectorAfter};
-ghost use Rattle.volume.specs.Lawful.{fileFits};
-ghost use Rattle.volume.specs.Format.{lengthFits, shapeFits};
-ghost use Rattle.sector.specs.Shapes.{filesOf};
+ghost use Rattle.sector.specs.Layout.{file_limit};
+ghost use Rattle.sector.specs.Contents.{first_header};
+ghost use Rattle.volume.specs.Places.{sector_after};
+ghost use Rattle.volume.specs.Lawful.{file_fits};
+ghost use Rattle.volume.specs.Format.{length_fits, shape_fits};
+ghost use Rattle.sector.specs.Shapes.{files_of};
 
 use sector::{Limits, Sector, wide};
 use volume::file_fits;
 
 // Whether n bytes are a whole number of sectors, and not too many.
 pub fn length_fits(n: usize) -> bool
-    ensures { result ≡ lengthFits n }
+    ensures { result ≡ length_fits n }
 {
     if n % Sector::SIZE != 0 {
         return false;
@@ -23,7 +23,7 @@ pub fn length_fits(n: usize) -> bool
 
 // Whether the number of clients and the list of files are in range.
 pub fn shape_fits(clients: u8, shape: &[u8]) -> bool
-    ensures { result ≡ shapeFits clients shape.now }
+    ensures { result ≡ shape_fits clients shape.now }
 {
     if clients < 1 {
         return false;
@@ -45,7 +45,7 @@ pub fn shape_fits(clients: u8, shape: &[u8]) -> bool
 
 // Whether every file of the list is in range.
 fn files_fit(shape: &[u8]) -> bool
-    ensures { result ≡ every fileFits (filesOf shape.now) }
+    ensures { result ≡ every file_fits (files_of shape.now) }
 {
     let n = shape.len() / 2;
     let mut i = 0;
@@ -60,8 +60,8 @@ fn files_fit(shape: &[u8]) -> bool
 
 // The sector after the last file.
 pub fn end_sector(clients: u8, shape: &[u8]) -> usize
-    requires { length shape.now ≤ 2 * fileLimit }
-    ensures { result ≡ sectorAfter (firstHeader clients) (filesOf shape.now) }
+    requires { length shape.now ≤ 2 * file_limit }
+    ensures { result ≡ sector_after (first_header clients) (files_of shape.now) }
 {
     let n = shape.len() / 2;
     let mut h = wide(clients) + 1;

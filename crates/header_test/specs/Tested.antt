@@ -1,21 +1,21 @@
 -- What the tests before the headers have shown to those of the headers.
 use Rattle.std.specs.Prelude.{◌≡◌, ℕ, ◌+◌, ◌*◌, ◌-◌, ◌≤◌, length}
-use Rattle.sector.specs.Layout.{sectorLimit, clientLimit, fileLimit, pageLimit, entryLimit}
+use Rattle.sector.specs.Layout.{sector_limit, client_limit, file_limit, page_limit, entry_limit}
 use Rattle.sector.specs.Contents.{Bytes}
-use Rattle.sector.specs.Decoding.{clientsIn, fileCountIn, headerSectorIn, fileIn, countIn, decodeTable}
-use Rattle.volume.specs.Places.{headerSector, recordPlace}
-use Rattle.volume.specs.Volumes.{Volume, bytesAt}
+use Rattle.sector.specs.Decoding.{clients_in, file_count_in, header_sector_in, file_in, count_in, decode_table}
+use Rattle.volume.specs.Places.{header_sector, record_place}
+use Rattle.volume.specs.Volumes.{Volume, bytes_at}
 
 -- What holds of a volume v and its sector 0, tb, once all but the headers has been tested.
 pub record Tested (v : Volume) (tb : Bytes) : Type 0 where
   pub whole : length tb ≡ 256
-  pub clients : clientsIn tb ≤ clientLimit
-  pub files : fileCountIn tb ≤ fileLimit
+  pub clients : clients_in tb ≤ client_limit
+  pub files : file_count_in tb ≤ file_limit
   -- Each record and each header is one of them.
-  pub short : length v ≤ 256 * sectorLimit
-  pub records : 256 * clientsIn tb + 256 ≤ length v
-  pub headers : (f : ℕ) → 1 ≤ f → f ≤ fileCountIn tb → 256 * headerSectorIn tb (f - 1) + 256 ≤ length v
-  pub header-is : (f : ℕ) → 1 ≤ f → f ≤ fileCountIn tb → headerSectorIn tb (f - 1) ≡ headerSector (decodeTable tb) f
-  pub pages : (f : ℕ) → 1 ≤ f → f ≤ fileCountIn tb → (fileIn tb (f - 1)).pages ≤ pageLimit
-  pub slots : (f : ℕ) → 1 ≤ f → f ≤ fileCountIn tb → (fileIn tb (f - 1)).pages ≤ (fileIn tb (f - 1)).slots
-  pub counts : (k : ℕ) → 1 ≤ k → k ≤ clientsIn tb → countIn (bytesAt (decodeTable tb) v (recordPlace k)) ≤ entryLimit
+  pub short : length v ≤ 256 * sector_limit
+  pub records : 256 * clients_in tb + 256 ≤ length v
+  pub headers : (f : ℕ) → 1 ≤ f → f ≤ file_count_in tb → 256 * header_sector_in tb (f - 1) + 256 ≤ length v
+  pub header_is : (f : ℕ) → 1 ≤ f → f ≤ file_count_in tb → header_sector_in tb (f - 1) ≡ header_sector (decode_table tb) f
+  pub pages : (f : ℕ) → 1 ≤ f → f ≤ file_count_in tb → (file_in tb (f - 1)).pages ≤ page_limit
+  pub slots : (f : ℕ) → 1 ≤ f → f ≤ file_count_in tb → (file_in tb (f - 1)).pages ≤ (file_in tb (f - 1)).slots
+  pub counts : (k : ℕ) → 1 ≤ k → k ≤ clients_in tb → count_in (bytes_at (decode_table tb) v (record_place k)) ≤ entry_limit

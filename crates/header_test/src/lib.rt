@@ -2,10 +2,10 @@
 #![tactic(auto)]
 
 ghost use Rattle.std.specs.Prelude.{◌≡◌, ◌≤◌, ◌<◌, length};
-ghost use Rattle.sector.specs.Layout.{pageLimit, entryLimit};
-ghost use Rattle.sector.specs.Decoding.{fileCountIn, countIn, entryIn, decodeTable, decodeRecord, decodeHeader};
-ghost use Rattle.byteset.specs.Set.{noBytes};
-ghost use Rattle.header_test.specs.Header.{fileWith, Scanned, slotApart, slotsApart, holderTest, headerSound};
+ghost use Rattle.sector.specs.Layout.{page_limit, entry_limit};
+ghost use Rattle.sector.specs.Decoding.{file_count_in, count_in, entry_in, decode_table, decode_record, decode_header};
+ghost use Rattle.byteset.specs.Set.{no_bytes};
+ghost use Rattle.header_test.specs.Header.{file_with, Scanned, slot_apart, slots_apart, holder_test, header_sound};
 ghost use Rattle.header_test.specs.Tested.{Tested};
 
 use byteset::{has, insert};
@@ -16,8 +16,8 @@ use sector::{
 
 // Whether the header of file f is sound.
 pub fn header_is_sound(v: &[u8], table: &[u8], f: usize) -> bool
-    requires { (Tested v.now table.now) × (1 ≤ f) × (f ≤ fileCountIn table.now) }
-    ensures { result ≡ headerSound (decodeTable table.now) v.now f }
+    requires { (Tested v.now table.now) × (1 ≤ f) × (f ≤ file_count_in table.now) }
+    ensures { result ≡ header_sound (decode_table table.now) v.now f }
 {
     let i = f - 1;
     let d = part(v, file_header(table, i));
@@ -33,8 +33,8 @@ pub fn header_is_sound(v: &[u8], table: &[u8], f: usize) -> bool
 
 // Whether the slots of the map are below `slots`, and no two of them are the same. If so, `seen` holds them then.
 fn map_fits(d: &[u8], pages: u8, slots: u8, seen: &mut [u64; 4]) -> bool
-    requires { (length d.now ≡ 256) × (pages ≤ pageLimit) × (seen.old ≡ noBytes) × (length seen.old ≡ 4) }
-    ensures { Scanned slots (decodeHeader (fileWith pages slots) d.now).map result seen.new }
+    requires { (length d.now ≡ 256) × (pages ≤ page_limit) × (seen.old ≡ no_bytes) × (length seen.old ≡ 4) }
+    ensures { Scanned slots (decode_header (file_with pages slots) d.now).map result seen.new }
 {
     let n = wide(pages);
     let mut p = 0;
@@ -55,7 +55,7 @@ fn map_fits(d: &[u8], pages: u8, slots: u8, seen: &mut [u64; 4]) -> bool
 // gives none of these slots.
 fn holder_fits(v: &[u8], table: &[u8], k: u8, f: u8, seen: &[u64; 4]) -> bool
     requires { (Tested v.now table.now) × (length seen.now ≡ 4) }
-    ensures { result ≡ holderTest (decodeTable table.now) v.now k f seen.now }
+    ensures { result ≡ holder_test (decode_table table.now) v.now k f seen.now }
 {
     if k == 0 {
         return true;
@@ -69,8 +69,8 @@ fn holder_fits(v: &[u8], table: &[u8], k: u8, f: u8, seen: &[u64; 4]) -> bool
 
 // Whether no entry of record d for file f gives a slot in `seen`.
 fn slots_apart(d: &[u8], f: u8, seen: &[u64; 4]) -> bool
-    requires { (length d.now ≡ 256) × (countIn d.now ≤ entryLimit) × (length seen.now ≡ 4) }
-    ensures { result ≡ slotsApart f seen.now (decodeRecord d.now).entries }
+    requires { (length d.now ≡ 256) × (count_in d.now ≤ entry_limit) × (length seen.now ≡ 4) }
+    ensures { result ≡ slots_apart f seen.now (decode_record d.now).entries }
 {
     let n = wide(record_count(d));
     let mut i = 0;
@@ -85,8 +85,8 @@ fn slots_apart(d: &[u8], f: u8, seen: &[u64; 4]) -> bool
 
 // Whether entry i of record d is for another file than f, or gives a slot that is not in `seen`.
 fn slot_apart(d: &[u8], f: u8, seen: &[u64; 4], i: usize) -> bool
-    requires { (length d.now ≡ 256) × (length seen.now ≡ 4) × (i < entryLimit) }
-    ensures { result ≡ slotApart f seen.now (entryIn d.now i) }
+    requires { (length d.now ≡ 256) × (length seen.now ≡ 4) × (i < entry_limit) }
+    ensures { result ≡ slot_apart f seen.now (entry_in d.now i) }
 {
     if entry_file(d, i) != f {
         return true;

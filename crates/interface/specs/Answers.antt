@@ -9,30 +9,30 @@ use Rattle.interface.specs.declared.CountOutcome.{CountOutcome}
 use Rattle.interface.specs.declared.FormatOutcome.{FormatOutcome}
 
 -- No client holds a file for reading.
-abbrev pub noneReading : List ℕ
-noneReading = 0 ∷ 0 ∷ 0 ∷ 0 ∷ []
+abbrev pub none_reading : List ℕ
+none_reading = 0 ∷ 0 ∷ 0 ∷ 0 ∷ []
 
 -- "A new session has no kiln open", and no reading hold.
-abbrev pub newSession : Session
-newSession = record { active = false ∷ false ∷ false ∷ false ∷ []; reading = noneReading }
+abbrev pub new_session : Session
+new_session = record { active = false ∷ false ∷ false ∷ false ∷ []; reading = none_reading }
 
 -- A session with these reading holds, whose marks are the low four bits of a byte: bit k − 1 for client k.
-abbrev pub sessionOf : ℕ → (reading : List ℕ) → Session
-sessionOf b reading = record {
+abbrev pub session_of : ℕ → (reading : List ℕ) → Session
+session_of b reading = record {
   active = eqb (b % 2) 1 ∷ eqb (b / 2 % 2) 1 ∷ eqb (b / 4 % 2) 1 ∷ eqb (b / 8 % 2) 1 ∷ [];
   reading = reading;
 }
 
 -- What a mark adds to the byte.
-abbrev pub markWorth : Bool → ℕ → ℕ
-markWorth true worth = worth
-markWorth false worth = 0
+abbrev pub mark_worth : Bool → ℕ → ℕ
+mark_worth true worth = worth
+mark_worth false worth = 0
 
 -- A session's marks as a byte: 1, 2, 4 and 8 for those of clients 1 to 4.
-abbrev pub marksByte : Session → ℕ
-marksByte s =
-    markWorth (get_or s.active 0 false) 1 + markWorth (get_or s.active 1 false) 2
-    + markWorth (get_or s.active 2 false) 4 + markWorth (get_or s.active 3 false) 8
+abbrev pub marks_byte : Session → ℕ
+marks_byte s =
+    mark_worth (get_or s.active 0 false) 1 + mark_worth (get_or s.active 1 false) 2
+    + mark_worth (get_or s.active 2 false) 4 + mark_worth (get_or s.active 3 false) 8
 
 -- "answers cut with the number of stores made .. Otherwise it answers done with that number"; a refusal has the table's number.
 pub data Answer : Type 0 where
@@ -40,53 +40,53 @@ pub data Answer : Type 0 where
 
 -- A question's answer: read "answers the sector number"; or a refusal's number.
 pub data QueryAnswer : Type 0 where
-  found queryRefused : ℕ → QueryAnswer
+  found query_refused : ℕ → QueryAnswer
 
 -- M-104: "A question about one file .. answers that byte", a count; or a refusal's number.
 pub data CountAnswer : Type 0 where
-  counted countRefused : ℕ → CountAnswer
+  counted count_refused : ℕ → CountAnswer
 
 -- Layout "answers done without a count"; or a refusal's number.
 pub data FormatAnswer : Type 0 where
-  formatDone : FormatAnswer
-  formatRefused : ℕ → FormatAnswer
+  format_done : FormatAnswer
+  format_refused : ℕ → FormatAnswer
 
 -- The numbers of the table under Refusals, and M-102's.
-abbrev pub refusalNumber : Refusal → ℕ
-refusalNumber NotSound = 1
-refusalNumber BadSession = 2
-refusalNumber NoClient = 3
-refusalNumber AlreadyActive = 4
-refusalNumber NotActive = 5
-refusalNumber NoFile = 6
-refusalNumber FileInUse = 7
-refusalNumber NotHeld = 8
-refusalNumber NoPage = 9
-refusalNumber BadPageLength = 10
-refusalNumber NoFreeSlot = 11
-refusalNumber RecordFull = 12
-refusalNumber BadVolumeLength = 13
-refusalNumber BadShape = 14
-refusalNumber TooFewSectors = 15
-refusalNumber ReadOnly = 16
+abbrev pub refusal_number : Refusal → ℕ
+refusal_number NotSound = 1
+refusal_number BadSession = 2
+refusal_number NoClient = 3
+refusal_number AlreadyActive = 4
+refusal_number NotActive = 5
+refusal_number NoFile = 6
+refusal_number FileInUse = 7
+refusal_number NotHeld = 8
+refusal_number NoPage = 9
+refusal_number BadPageLength = 10
+refusal_number NoFreeSlot = 11
+refusal_number RecordFull = 12
+refusal_number BadVolumeLength = 13
+refusal_number BadShape = 14
+refusal_number TooFewSectors = 15
+refusal_number ReadOnly = 16
 
 -- Each case of an outcome, as the paper has it.
-abbrev pub answerOf : Outcome → Answer
-answerOf (Outcome.Done n) = done n
-answerOf (Outcome.Crashed n) = crashed n
-answerOf (Outcome.Refused r) = refused (refusalNumber r)
+abbrev pub answer_of : Outcome → Answer
+answer_of (Outcome.Done n) = done n
+answer_of (Outcome.Crashed n) = crashed n
+answer_of (Outcome.Refused r) = refused (refusal_number r)
 
 -- Each case of a question's outcome.
-abbrev pub queryAnswerOf : QueryOutcome → QueryAnswer
-queryAnswerOf (QueryOutcome.Sector n) = found n
-queryAnswerOf (QueryOutcome.Refused r) = queryRefused (refusalNumber r)
+abbrev pub query_answer_of : QueryOutcome → QueryAnswer
+query_answer_of (QueryOutcome.Sector n) = found n
+query_answer_of (QueryOutcome.Refused r) = query_refused (refusal_number r)
 
 -- Each case of a count's outcome.
-abbrev pub countAnswerOf : CountOutcome → CountAnswer
-countAnswerOf (CountOutcome.Count n) = counted n
-countAnswerOf (CountOutcome.Refused r) = countRefused (refusalNumber r)
+abbrev pub count_answer_of : CountOutcome → CountAnswer
+count_answer_of (CountOutcome.Count n) = counted n
+count_answer_of (CountOutcome.Refused r) = count_refused (refusal_number r)
 
 -- Each case of a format's outcome.
-abbrev pub formatAnswerOf : FormatOutcome → FormatAnswer
-formatAnswerOf FormatOutcome.Done = formatDone
-formatAnswerOf (FormatOutcome.Refused r) = formatRefused (refusalNumber r)
+abbrev pub format_answer_of : FormatOutcome → FormatAnswer
+format_answer_of FormatOutcome.Done = format_done
+format_answer_of (FormatOutcome.Refused r) = format_refused (refusal_number r)

@@ -9,31 +9,31 @@ use lib.ListN.{length, length-append}
 use lib.Seq.{length-sets}
 use Rattle.lists.specs.Lists.{from}
 use Rattle.sector.specs.Contents.{Bytes}
-use Rattle.volume.specs.Listing.{decimal, stateWord, clientText, sectorsText, pagesText, clientLine, fileLine, lines}
+use Rattle.volume.specs.Listing.{decimal, state_word, client_text, sectors_text, pages_text, client_line, file_line, lines}
 use Rattle.text.specs.Writes.{Wrote}
-use Rattle.text.proofs.WritesLaws.{wrote-more}
+use Rattle.text.proofs.WritesLaws.{wrote_more}
 
 -- ------------------------------------------------------------------ one line
-pub client-length : (k state count : ℕ)
-    → length (clientLine k state count) ≡ 8 + length (decimal k) + length (stateWord state) + length (decimal count)
-unfolding clientLine
-client-length k state count =
+pub client_length : (k state count : ℕ)
+    → length (client_line k state count) ≡ 8 + length (decimal k) + length (state_word state) + length (decimal count)
+unfolding client_line
+client_length k state count =
     let c : Bytes = decimal count ++ (0x0A ∷ []) in
-    let s : Bytes = stateWord state ++ (0x20 ∷ c) in
-    omega (arith, length-append (decimal k) (0x20 ∷ s), length-append (stateWord state) (0x20 ∷ c), length-append (decimal count) (0x0A ∷ []))
+    let s : Bytes = state_word state ++ (0x20 ∷ c) in
+    omega (arith, length-append (decimal k) (0x20 ∷ s), length-append (state_word state) (0x20 ∷ c), length-append (decimal count) (0x0A ∷ []))
 
-pub file-length : (f holder pages slots : ℕ)
-    → length (fileLine f holder pages slots) ≡ 28 + length (decimal f) + length (decimal holder) + length (decimal pages) + length (decimal slots)
-unfolding fileLine
-file-length f holder pages slots =
+pub file_length : (f holder pages slots : ℕ)
+    → length (file_line f holder pages slots) ≡ 28 + length (decimal f) + length (decimal holder) + length (decimal pages) + length (decimal slots)
+unfolding file_line
+file_length f holder pages slots =
     let s : Bytes = decimal slots ++ (0x0A ∷ []) in
-    let p : Bytes = decimal pages ++ (sectorsText ++ s) in
-    let o : Bytes = decimal holder ++ (pagesText ++ p) in
+    let p : Bytes = decimal pages ++ (sectors_text ++ s) in
+    let o : Bytes = decimal holder ++ (pages_text ++ p) in
     omega (
       arith,
-      length-append (decimal f) (0x20 ∷ (clientText ++ o)),
-      length-append (decimal holder) (pagesText ++ p),
-      length-append (decimal pages) (sectorsText ++ s),
+      length-append (decimal f) (0x20 ∷ (client_text ++ o)),
+      length-append (decimal holder) (pages_text ++ p),
+      length-append (decimal pages) (sectors_text ++ s),
       length-append (decimal slots) (0x0A ∷ []),
     )
 
@@ -47,29 +47,29 @@ pub record Writing (line : ℕ → Bytes) (n : ℕ) (b : Bytes) (start k : ℕ) 
   pub room : at + length (lines line (from k (n + 1 - k))) ≤ length b
   pub rest : (w : Bytes) (m : ℕ) → Wrote c at (lines line (from k (n + 1 - k))) w m → Wrote b start (lines line (from 1 n)) w m
 
-lines-from : (line : ℕ → Bytes) (n k : ℕ) → k ≤ n → lines line (from k (n + 1 - k)) ≡ line k ++ lines line (from (k + 1) (n + 1 - (k + 1)))
-lines-from line n k h =
+lines_from : (line : ℕ → Bytes) (n k : ℕ) → k ≤ n → lines line (from k (n + 1 - k)) ≡ line k ++ lines line (from (k + 1) (n + 1 - (k + 1)))
+lines_from line n k h =
     let m : n + 1 - k ≡ suc (n + 1 - (k + 1)) = omega arith in
     rw (m, add-one k)
 
-pub writing-starts : (line : ℕ → Bytes) (n : ℕ) (b : Bytes) (start : ℕ) → start + length (lines line (from 1 n)) ≤ length b
+pub writing_starts : (line : ℕ → Bytes) (n : ℕ) (b : Bytes) (start : ℕ) → start + length (lines line (from 1 n)) ≤ length b
     → Writing line n b start 1 b start
-writing-starts line n b start room =
+writing_starts line n b start room =
     let e : n + 1 - 1 ≡ n = omega arith in
     record { low = omega arith; high = omega arith; size = refl; room = rw e room; rest = λ w m x. rw e at x }
 
 module _ {line : ℕ → Bytes} {n : ℕ} {b c : Bytes} {start k at : ℕ} (now : Writing line n b start k c at) where
-  next-room : k ≤ n → at + (length (line k) + length (lines line (from (k + 1) (n + 1 - (k + 1))))) ≤ length b
-  next-room h = rw (lines-from line n k h, length-append (line k) (lines line (from (k + 1) (n + 1 - (k + 1))))) at now.room
+  next_room : k ≤ n → at + (length (line k) + length (lines line (from (k + 1) (n + 1 - (k + 1))))) ≤ length b
+  next_room h = rw (lines_from line n k h, length-append (line k) (lines line (from (k + 1) (n + 1 - (k + 1))))) at now.room
 
-  pub writing-room : k ≤ n → at + length (line k) ≤ length c
-  writing-room h = omega (arith, next-room h, now.size)
+  pub writing_room : k ≤ n → at + length (line k) ≤ length c
+  writing_room h = omega (arith, next_room h, now.size)
 
-  pub writing-turn : {d : Bytes} {next : ℕ} → k ≤ n → Wrote c at (line k) d next → Writing line n b start (k + 1) d next
-  writing-turn h one = record {
+  pub writing_turn : {d : Bytes} {next : ℕ} → k ≤ n → Wrote c at (line k) d next → Writing line n b start (k + 1) d next
+  writing_turn h one = record {
     low = omega arith;
     high = omega arith;
     size = rw one.bytes (length-sets c at (line k)) ∙ now.size;
-    room = omega (arith, one.next, next-room h);
-    rest = λ w m x. now.rest w m (rw (lines-from line n k h) (wrote-more one x));
+    room = omega (arith, one.next, next_room h);
+    rest = λ w m x. now.rest w m (rw (lines_from line n k h) (wrote_more one x));
   }

@@ -10,21 +10,21 @@ use lib.Dec.{eqb}
 use lib.ListN.{length, length-append}
 use Rattle.lists.specs.Lists.{when◌then◌else◌, from}
 use Rattle.sector.specs.Contents.{Bytes}
-use Rattle.volume.specs.Places.{IsFile, fileAt}
+use Rattle.volume.specs.Places.{IsFile, file_at}
 use Rattle.volume.specs.Volumes.{Volume, view}
 use Rattle.volume.specs.Sound.{sound}
-use Rattle.volume.specs.Listing.{stateWord, lines, listing, clientLineOf, clientLines, fileLineOf, fileLines}
-use Rattle.volume.proofs.LawfulLaws.{Lawful, record-facts, lawful-facts, holder-four}
-use Rattle.volume.proofs.SoundLaws.{sound-lawful}
+use Rattle.volume.specs.Listing.{state_word, lines, listing, client_line_of, client_lines, file_line_of, file_lines}
+use Rattle.volume.proofs.LawfulLaws.{Lawful, record_facts, lawful_facts, holder_four}
+use Rattle.volume.proofs.SoundLaws.{sound_lawful}
 use Rattle.listing.specs.declared.ListOutcome.{ListOutcome}
 use Rattle.text.specs.Writes.{Wrote}
 use Rattle.listing.specs.Listed.{Listed, listed}
-use Rattle.text.proofs.WritesLaws.{one-digit, below-100, any-number, wrote-more, wrote-front}
-use Rattle.listing.proofs.LinesLaws.{client-length, file-length}
+use Rattle.text.proofs.WritesLaws.{one_digit, below_100, any_number, wrote_more, wrote_front}
+use Rattle.listing.proofs.LinesLaws.{client_length, file_length}
 
 -- ------------------------------------------------------------------ how long it can be
-word-length : (s : ℕ) → length (stateWord s) ≤ 7
-word-length s = go (eqb s 0) (eqb s 1)
+word_length : (s : ℕ) → length (state_word s) ≤ 7
+word_length s = go (eqb s 0) (eqb s 1)
   where
     go : (a b : Bool) → length {A = ℕ} (when a then 0x69 ∷ 0x64 ∷ 0x6C ∷ 0x65 ∷ [] else when b then 0x6F ∷ 0x70 ∷ 0x65 ∷ 0x6E ∷ []
         else 0x64 ∷ 0x65 ∷ 0x63 ∷ 0x69 ∷ 0x64 ∷ 0x65 ∷ 0x64 ∷ []) ≤ 7
@@ -32,56 +32,56 @@ word-length s = go (eqb s 0) (eqb s 1)
     go false true = omega arith
     go false false = omega arith
 
-lines-length : (line : ℕ → Bytes) (m n a : ℕ) → ((j : ℕ) → a ≤ j → j < a + n → length (line j) ≤ m) → length (lines line (from a n)) ≤ m * n
-lines-length line m zero a h = omega arith
-lines-length line m (suc n) a h =
+lines_length : (line : ℕ → Bytes) (m n a : ℕ) → ((j : ℕ) → a ≤ j → j < a + n → length (line j) ≤ m) → length (lines line (from a n)) ≤ m * n
+lines_length line m zero a h = omega arith
+lines_length line m (suc n) a h =
     omega (
       arith,
       length-append (line a) (lines line (from (suc a) n)),
       h a (omega arith) (omega arith),
-      lines-length line m n (suc a) (λ j lo hi. h j (omega arith) (omega arith)),
+      lines_length line m n (suc a) (λ j lo hi. h j (omega arith) (omega arith)),
     )
 
 module _ (v : Volume) (ok : sound v ≡ true) where
   facts : Lawful (view v).table (view v)
-  facts = lawful-facts (view v) (sound-lawful v ok)
+  facts = lawful_facts (view v) (sound_lawful v ok)
 
-  client-18 : (k : ℕ) → 1 ≤ k → k < 1 + (view v).table.clients → length (clientLineOf (view v) k) ≤ 18
-  client-18 k lo hi =
+  client_18 : (k : ℕ) → 1 ≤ k → k < 1 + (view v).table.clients → length (client_line_of (view v) k) ≤ 18
+  client_18 k lo hi =
       let r = (view v).records k in
-      let count : length r.entries < 100 = omega (arith, (record-facts {t = (view v).table} {r = r} (facts.records k lo (omega arith))).few) in
-      let digit = one-digit k (omega (arith, facts.table.four)) in
-      omega (arith, client-length k r.state (length r.entries), digit, word-length r.state, below-100 (length r.entries) count)
+      let count : length r.entries < 100 = omega (arith, (record_facts {t = (view v).table} {r = r} (facts.records k lo (omega arith))).few) in
+      let digit = one_digit k (omega (arith, facts.table.four)) in
+      omega (arith, client_length k r.state (length r.entries), digit, word_length r.state, below_100 (length r.entries) count)
 
-  file-37 : (f : ℕ) → 1 ≤ f → f < 1 + length (view v).table.files → length (fileLineOf (view v) f) ≤ 37
-  file-37 f lo hi =
+  file_37 : (f : ℕ) → 1 ≤ f → f < 1 + length (view v).table.files → length (file_line_of (view v) f) ≤ 37
+  file_37 f lo hi =
       let n = ((view v).headers f).holder in
-      let x = fileAt (view v).table f in
+      let x = file_at (view v).table f in
       let i : IsFile (view v).table f = record { low = lo; high = omega arith } in
       let few : f < 100 = omega (arith, facts.table.files.1) in
-      omega (arith, file-length f n x.pages x.slots, below-100 f few, one-digit n (omega (arith, holder-four facts f i)), any-number x.pages, any-number x.slots)
+      omega (arith, file_length f n x.pages x.slots, below_100 f few, one_digit n (omega (arith, holder_four facts f i)), any_number x.pages, any_number x.slots)
 
-  pub lines-fit : length (clientLines (view v)) + length (fileLines (view v)) ≤ 664
-  lines-fit =
-      let clients = lines-length (clientLineOf (view v)) 18 (view v).table.clients 1 client-18 in
-      let files = lines-length (fileLineOf (view v)) 37 (length (view v).table.files) 1 file-37 in
+  pub lines_fit : length (client_lines (view v)) + length (file_lines (view v)) ≤ 664
+  lines_fit =
+      let clients = lines_length (client_line_of (view v)) 18 (view v).table.clients 1 client_18 in
+      let files = lines_length (file_line_of (view v)) 37 (length (view v).table.files) 1 file_37 in
       omega (arith, facts.table.four, facts.table.files.1)
 
-  pub listing-fits : length (listing (view v)) ≤ 664
+  pub listing_fits : length (listing (view v)) ≤ 664
   unfolding listing
-  listing-fits = omega (arith, length-append (clientLines (view v)) (fileLines (view v)), lines-fit)
+  listing_fits = omega (arith, length-append (client_lines (view v)) (file_lines (view v)), lines_fit)
 
 -- ------------------------------------------------------------------ what is written
 -- The lines of the clients and those of the files behind them are the listing.
-pub wrote-listing : (v : Volume) (b c d : Bytes) (n r : ℕ)
-    → Wrote b 0 (clientLines (view v)) c n → Wrote c n (fileLines (view v)) d r → Wrote b 0 (listing (view v)) d r
+pub wrote_listing : (v : Volume) (b c d : Bytes) (n r : ℕ)
+    → Wrote b 0 (client_lines (view v)) c n → Wrote c n (file_lines (view v)) d r → Wrote b 0 (listing (view v)) d r
 unfolding listing
-wrote-listing v b c d n r x y = wrote-more x y
+wrote_listing v b c d n r x y = wrote_more x y
 
 -- So it is what the definition says.
-pub listed-text : (v : Volume) (b d : Bytes) (r : ℕ) → 664 ≤ length b → sound v ≡ true → Wrote b 0 (listing (view v)) d r
+pub listed_text : (v : Volume) (b d : Bytes) (r : ℕ) → 664 ≤ length b → sound v ≡ true → Wrote b 0 (listing (view v)) d r
     → ◌≡◌ {A = Listed} (record { outcome = ListOutcome.Listed r; out = d }) (listed v b)
 unfolding listed
-listed-text v b d r room ok w =
-    let t = wrote-front w (omega (arith, listing-fits v ok)) in
+listed_text v b d r room ok w =
+    let t = wrote_front w (omega (arith, listing_fits v ok)) in
     rw (le-ltb (length b) 664 room, ok, t.0, t.1)

@@ -6,7 +6,7 @@ use Rattle.volume.specs.Volumes.{Volume, view}
 use Rattle.volume.specs.Sound.{sound}
 use Rattle.volume.specs.Listing.{listing, printed}
 use Rattle.listing.specs.declared.ListOutcome.{ListOutcome}
-use Rattle.text.specs.Writes.{atFront, ToPrint, textFirst, nothingFirst}
+use Rattle.text.specs.Writes.{at_front, ToPrint, text_first, nothing_first}
 
 -- The outcome, and the bytes.
 pub record Listed : Type 0 where
@@ -14,16 +14,16 @@ pub record Listed : Type 0 where
   pub out : Bytes
 
 -- The text is written at the front.
-abbrev pub withText : Bytes → Bytes → Listed
-withText text out = record { outcome = ListOutcome.Listed (length text); out = atFront text out }
+abbrev pub with_text : Bytes → Bytes → Listed
+with_text text out = record { outcome = ListOutcome.Listed (length text); out = at_front text out }
 
 -- The text of a sound volume is written; without room for the longest one, or if the volume isn't sound, nothing is.
 unfoldable pub listed : Volume → Bytes → Listed
 listed v out =
     when ltb (length out) 664 then record { outcome = ListOutcome.NoRoom; out = out }
-    else when sound v then withText (listing (view v)) out
+    else when sound v then with_text (listing (view v)) out
     else record { outcome = ListOutcome.NotSound; out = out }
 
 -- The text of the listing program stands at the front; without room for the longest one, nothing is written.
-unfoldable pub toPrint : Volume → Bytes → ToPrint
-toPrint v out = when ltb (length out) 664 then nothingFirst out else textFirst (printed v) out
+unfoldable pub to_print : Volume → Bytes → ToPrint
+to_print v out = when ltb (length out) 664 then nothing_first out else text_first (printed v) out

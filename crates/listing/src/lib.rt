@@ -8,7 +8,7 @@ ghost use Rattle.volume.specs.Volumes.{view};
 ghost use Rattle.volume.specs.Sound.{sound};
 ghost use Rattle.volume.specs.Listing.{listing};
 ghost use Rattle.text.specs.Writes.{Wrote};
-ghost use Rattle.listing.specs.Listed.{listed, toPrint};
+ghost use Rattle.listing.specs.Listed.{listed, to_print};
 
 use crate::lines::{list_clients, list_files};
 use soundness::is_sound;
@@ -63,7 +63,7 @@ pub fn list(v: &[u8], out: &mut [u8]) -> ListOutcome
 // the listing. Ruled out: a volume of 65,537 bytes listed (`must-fail/lists_a_long_one`); nothing printed if the volume
 // is not sound.
 pub fn print(v: &[u8], out: &mut [u8]) -> usize
-    ensures out_after { (record { count = result; out = out.new }) ≡ toPrint v.now out.old }
+    ensures out_after { (record { count = result; out = out.new }) ≡ to_print v.now out.old }
     ensures upper_bound { (result ≤ length out.new) × (result ≡ length (take result out.new)) }
 {
     if out.len() < Listing::ROOM {

@@ -2,11 +2,11 @@
 #![tactic(auto)]
 
 ghost use Rattle.std.specs.Prelude.{◌≡◌, true, ◌≤◌, ◌<◌, length};
-ghost use Rattle.sector.specs.Layout.{fileLimit, entryLimit};
-ghost use Rattle.sector.specs.Decoding.{fileCountIn, stateIn, countIn, entryIn, decodeTable, decodeRecord};
-ghost use Rattle.volume.specs.Lawful.{entryFits};
-ghost use Rattle.table_test.specs.Table.{tableSound};
-ghost use Rattle.record_test.specs.Record.{stateFits, entriesFit, InRange, Inserted, recordSound};
+ghost use Rattle.sector.specs.Layout.{file_limit, entry_limit};
+ghost use Rattle.sector.specs.Decoding.{file_count_in, state_in, count_in, entry_in, decode_table, decode_record};
+ghost use Rattle.volume.specs.Lawful.{entry_fits};
+ghost use Rattle.table_test.specs.Table.{table_sound};
+ghost use Rattle.record_test.specs.Record.{state_fits, entries_fit, InRange, Inserted, record_sound};
 
 use byteset::insert_number;
 use sector::{
@@ -16,8 +16,8 @@ use sector::{
 
 // Whether the record is sound, by the table.
 pub fn record_is_sound(table: &[u8], d: &[u8]) -> bool
-    requires { (length table.now ≡ 256) × (length d.now ≡ 256) × (tableSound table.now ≡ true) }
-    ensures { result ≡ recordSound (decodeTable table.now) d.now }
+    requires { (length table.now ≡ 256) × (length d.now ≡ 256) × (table_sound table.now ≡ true) }
+    ensures { result ≡ record_sound (decode_table table.now) d.now }
 {
     if !is_record(d) {
         return false;
@@ -29,7 +29,7 @@ pub fn record_is_sound(table: &[u8], d: &[u8]) -> bool
 // decided (2). Every other byte is refused.
 fn state_fits(d: &[u8]) -> bool
     requires { length d.now ≡ 256 }
-    ensures { result ≡ stateFits (stateIn d.now) (countIn d.now) }
+    ensures { result ≡ state_fits (state_in d.now) (count_in d.now) }
 {
     let state = record_state(d);
     match state {
@@ -44,8 +44,8 @@ fn state_fits(d: &[u8]) -> bool
 // slot. A page, or a slot, stands for the sector that is its number of sectors after its file's header: no two pages share
 // one, and no two slots.
 fn entries_fit(table: &[u8], d: &[u8], n: usize) -> bool
-    requires { (length table.now ≡ 256) × (length d.now ≡ 256) × (tableSound table.now ≡ true) × (n ≡ countIn d.now) × (n ≤ entryLimit) }
-    ensures { result ≡ entriesFit (decodeTable table.now) (decodeRecord d.now).entries }
+    requires { (length table.now ≡ 256) × (length d.now ≡ 256) × (table_sound table.now ≡ true) × (n ≡ count_in d.now) × (n ≤ entry_limit) }
+    ensures { result ≡ entries_fit (decode_table table.now) (decode_record d.now).entries }
 {
     if n < 1 {
         return true;
@@ -67,8 +67,8 @@ fn entries_fit(table: &[u8], d: &[u8], n: usize) -> bool
 
 // Whether entry i names a file, a page and a slot that there are.
 fn entry_fits(table: &[u8], d: &[u8], i: usize) -> bool
-    requires { (length table.now ≡ 256) × (length d.now ≡ 256) × (fileCountIn table.now ≤ fileLimit) × (i < entryLimit) }
-    ensures { result ≡ entryFits (decodeTable table.now) (entryIn d.now i) }
+    requires { (length table.now ≡ 256) × (length d.now ≡ 256) × (file_count_in table.now ≤ file_limit) × (i < entry_limit) }
+    ensures { result ≡ entry_fits (decode_table table.now) (entry_in d.now i) }
 {
     let f = wide(entry_file(d, i));
     let here = (1 <= f) & (f <= wide(table_files(table)));
@@ -87,8 +87,8 @@ fn insert_entry(
     pages: &mut [u64; 16],
     slots: &mut [u64; 16],
 ) -> bool
-    requires { (length table.now ≡ 256) × (length d.now ≡ 256) × (i < entryLimit) × (length pages.old ≡ 16) × (length slots.old ≡ 16) × InRange table.now (entryIn d.now i) }
-    ensures { Inserted table.now (entryIn d.now i) pages.old slots.old result pages.new slots.new }
+    requires { (length table.now ≡ 256) × (length d.now ≡ 256) × (i < entry_limit) × (length pages.old ≡ 16) × (length slots.old ≡ 16) × InRange table.now (entry_in d.now i) }
+    ensures { Inserted table.now (entry_in d.now i) pages.old slots.old result pages.new slots.new }
 {
     let header = file_header(table, wide(entry_file(d, i)) - 1);
     let page = insert_number(pages, header + wide(entry_page(d, i)));

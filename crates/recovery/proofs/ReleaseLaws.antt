@@ -10,77 +10,77 @@ use native.Mathlib.Omega.{arith}
 use borrow.Author.Tests.{eq-eqb, ne_eqb}
 use lib.ListN.{length}
 use Rattle.lists.specs.Lists.{when◌then◌else◌, filter, member, from}
-use Rattle.sector.specs.Contents.{Record, Header, idleRecord}
-use Rattle.sector.proofs.EditLaws.{redone-length}
-use Rattle.lists.proofs.ListLaws.{no-both}
-use Rattle.lists.proofs.CaseLaws.{if-test, if-equal}
+use Rattle.sector.specs.Contents.{Record, Header, idle_record}
+use Rattle.sector.proofs.EditLaws.{redone_length}
+use Rattle.lists.proofs.ListLaws.{no_both}
+use Rattle.lists.proofs.CaseLaws.{if_test, if_equal}
 use Rattle.volume.specs.Places.{IsClient, IsFile}
-use Rattle.volume.specs.Views.{View, Update, setRecord, setHeader, changed, changedBy}
+use Rattle.volume.specs.Views.{View, Update, set_record, set_header, changed, changed_by}
 use Rattle.volume.specs.Volumes.{Volume, view}
 use Rattle.volume.specs.WellFormed.{WellFormed}
-use Rattle.volume.proofs.AlongLaws.{changed-append}
-use Rattle.volume.proofs.LawfulLaws.{idle-fits}
-use Rattle.volume.proofs.ReadLaws.{few-pages}
+use Rattle.volume.proofs.AlongLaws.{changed_append}
+use Rattle.volume.proofs.LawfulLaws.{idle_fits}
+use Rattle.volume.proofs.ReadLaws.{few_pages}
 use Rattle.rules.specs.Sessions.{holds}
-use Rattle.rules.specs.Recovery.{mapAfter, heldFiles, recovery}
-use Rattle.rules.proofs.RecoveryLaws.{held-member}
+use Rattle.rules.specs.Recovery.{map_after, held_files, recovery}
+use Rattle.rules.proofs.RecoveryLaws.{held_member}
 use Rattle.stores.specs.declared.Run.{Run}
 use Rattle.stores.specs.Runs.{UpdatesMade, AllMade}
-use Rattle.stores.proofs.MadeLaws.{all-table, all-none, all-one, made-going, made-same, made-more}
-use Rattle.recovery.specs.Work.{freed, releaseOf}
+use Rattle.stores.proofs.MadeLaws.{all_table, all_none, all_one, made_going, made_same, made_more}
+use Rattle.recovery.specs.Work.{freed, release_of}
 
 -- ------------------------------------------------------------------ one file
 module _ (redo : Bool) (a : View) (k : ℕ) where
-  pub release-none : (f : ℕ) → (a.headers f).holder ≢ k → releaseOf redo a k f ≡ []
-  unfolding releaseOf
-  release-none f n = rw (ne_eqb _ k n)
+  pub release_none : (f : ℕ) → (a.headers f).holder ≢ k → release_of redo a k f ≡ []
+  unfolding release_of
+  release_none f n = rw (ne_eqb _ k n)
 
-  pub release-held : (f : ℕ) → (a.headers f).holder ≡ k → releaseOf redo a k f ≡ setHeader f (freed redo a k f) ∷ []
-  unfolding releaseOf
-  release-held f e = rw (eq-eqb _ k e)
+  pub release_held : (f : ℕ) → (a.headers f).holder ≡ k → release_of redo a k f ≡ set_header f (freed redo a k f) ∷ []
+  unfolding release_of
+  release_held f e = rw (eq-eqb _ k e)
 
   -- It is freed the same where its header and the client's record are the same.
-  release-same : (b : View) (f : ℕ) → b.records k ≡ a.records k → b.headers f ≡ a.headers f → releaseOf redo b k f ≡ releaseOf redo a k f
-  unfolding releaseOf
-  release-same b f r h = rw (r, h)
+  release_same : (b : View) (f : ℕ) → b.records k ≡ a.records k → b.headers f ≡ a.headers f → release_of redo b k f ≡ release_of redo a k f
+  unfolding release_of
+  release_same b f r h = rw (r, h)
 
-  release-records : (f : ℕ) (b : View) → (changedBy b (releaseOf redo a k f)).records ≡ b.records
-  unfolding releaseOf
-  release-records f b = if-test (λ (xs : List Update). (changedBy b xs).records ≡ b.records) (holds a k f) _ [] (λ e. refl) (λ e. refl)
+  release_records : (f : ℕ) (b : View) → (changed_by b (release_of redo a k f)).records ≡ b.records
+  unfolding release_of
+  release_records f b = if_test (λ (xs : List Update). (changed_by b xs).records ≡ b.records) (holds a k f) _ [] (λ e. refl) (λ e. refl)
 
-  pub release-other : (f g : ℕ) (b : View) → g ≢ f → (changedBy b (releaseOf redo a k f)).headers g ≡ b.headers g
-  unfolding releaseOf
-  release-other f g b n = if-test (λ (xs : List Update). (changedBy b xs).headers g ≡ b.headers g) (holds a k f) _ []
+  pub release_other : (f g : ℕ) (b : View) → g ≢ f → (changed_by b (release_of redo a k f)).headers g ≡ b.headers g
+  unfolding release_of
+  release_other f g b n = if_test (λ (xs : List Update). (changed_by b xs).headers g ≡ b.headers g) (holds a k f) _ []
       (λ e. rw (ne_eqb g f n)) (λ e. refl)
 
   -- The updates of recovery for these files, and the idle record.
   abbrev pub rest : List ℕ → List Update
-  rest fs = map (λ f. setHeader f (freed redo a k f)) (filter (holds a k) fs) ++ (setRecord k idleRecord ∷ [])
+  rest fs = map (λ f. set_header f (freed redo a k f)) (filter (holds a k) fs) ++ (set_record k idle_record ∷ [])
 
-  pub rest-all : recovery redo a k ≡ rest (from 1 (length a.table.files))
-  unfolding recovery heldFiles
-  rest-all = refl
+  pub rest_all : recovery redo a k ≡ rest (from 1 (length a.table.files))
+  unfolding recovery held_files
+  rest_all = refl
 
-  pub rest-more : (f : ℕ) (fs : List ℕ) → rest (f ∷ fs) ≡ releaseOf redo a k f ++ rest fs
-  unfolding releaseOf
-  rest-more f fs = go (holds a k f)
+  pub rest_more : (f : ℕ) (fs : List ℕ) → rest (f ∷ fs) ≡ release_of redo a k f ++ rest fs
+  unfolding release_of
+  rest_more f fs = go (holds a k f)
     where
-      go : (b : Bool) → map (λ f. setHeader f (freed redo a k f)) (when b then f ∷ filter (holds a k) fs else filter (holds a k) fs) ++ (setRecord k idleRecord ∷ [])
-          ≡ (when b then setHeader f (freed redo a k f) ∷ [] else []) ++ rest fs
+      go : (b : Bool) → map (λ f. set_header f (freed redo a k f)) (when b then f ∷ filter (holds a k) fs else filter (holds a k) fs) ++ (set_record k idle_record ∷ [])
+          ≡ (when b then set_header f (freed redo a k f) ∷ [] else []) ++ rest fs
       go true = refl
       go false = refl
 
-after-length : (redo : Bool) (a : View) (k f : ℕ) → length (mapAfter redo a k f) ≡ length (a.headers f).map
-after-length true a k f = redone-length f (a.records k).entries (a.headers f).map
-after-length false a k f = refl
+after_length : (redo : Bool) (a : View) (k f : ℕ) → length (map_after redo a k f) ≡ length (a.headers f).map
+after_length true a k f = redone_length f (a.records k).entries (a.headers f).map
+after_length false a k f = refl
 
 -- A file that was freed, or that k doesn't hold.
-release-all : {v w : Volume} {r q : Run} (redo : Bool) (k f : ℕ) → WellFormed v → IsFile (view v).table f
-    → UpdatesMade v r (releaseOf redo (view v) k f) w q → q.crashed ≡ false → AllMade v (releaseOf redo (view v) k f) w
-unfolding releaseOf
-release-all {v} {w} {r} {q} redo k f formed i m c = if-test (λ (xs : List Update). UpdatesMade v r xs w q → AllMade v xs w) (holds (view v) k f) _ []
-    (λ e m. all-one _ formed (i, after-length redo (view v) k f ∙ formed.map-size f i.low i.high, omega (arith, few-pages v formed.tabled f i)) m c)
-    (λ e m. all-none formed m) m
+release_all : {v w : Volume} {r q : Run} (redo : Bool) (k f : ℕ) → WellFormed v → IsFile (view v).table f
+    → UpdatesMade v r (release_of redo (view v) k f) w q → q.crashed ≡ false → AllMade v (release_of redo (view v) k f) w
+unfolding release_of
+release_all {v} {w} {r} {q} redo k f formed i m c = if_test (λ (xs : List Update). UpdatesMade v r xs w q → AllMade v xs w) (holds (view v) k f) _ []
+    (λ e m. all_one _ formed (i, after_length redo (view v) k f ∙ formed.map_size f i.low i.high, omega (arith, few_pages v formed.tabled f i)) m c)
+    (λ e m. all_none formed m) m
 
 -- ------------------------------------------------------------------ the loop
 -- What the run finds at file f if it hasn't crashed.
@@ -89,94 +89,94 @@ record Ahead (a : View) (redo : Bool) (k f : ℕ) (fs : List ℕ) (v : Volume) :
   table : (view v).table ≡ a.table
   own : (view v).records k ≡ a.records k
   headers : (g : ℕ) → f ≤ g → (view v).headers g ≡ a.headers g
-  seen : changedBy (view v) (rest redo a k fs) ≡ changedBy a (recovery redo a k)
+  seen : changed_by (view v) (rest redo a k fs) ≡ changed_by a (recovery redo a k)
 
 -- The files from f on.
-abbrev filesFrom : View → ℕ → List ℕ
-filesFrom a f = from f (length a.table.files + 1 - f)
+abbrev files_from : View → ℕ → List ℕ
+files_from a f = from f (length a.table.files + 1 - f)
 
 -- File f is next: what is left of recovery is its updates from there on.
 pub record Turn (v₀ : Volume) (r₀ : Run) (redo : Bool) (k : ℕ) (v : Volume) (r : Run) (f : ℕ) : Type 0 where
   pub low : 1 ≤ f
   pub high : f ≤ length (view v₀).table.files + 1
-  left : {u : Volume} {q : Run} → UpdatesMade v r (rest redo (view v₀) k (filesFrom (view v₀) f)) u q → UpdatesMade v₀ r₀ (recovery redo (view v₀) k) u q
-  ahead : r.crashed ≡ false → Ahead (view v₀) redo k f (filesFrom (view v₀) f) v
+  left : {u : Volume} {q : Run} → UpdatesMade v r (rest redo (view v₀) k (files_from (view v₀) f)) u q → UpdatesMade v₀ r₀ (recovery redo (view v₀) k) u q
+  ahead : r.crashed ≡ false → Ahead (view v₀) redo k f (files_from (view v₀) f) v
 
-pub turn-start : {v : Volume} {r : Run} {redo : Bool} {k : ℕ} → WellFormed v → Turn v r redo k v r 1
-turn-start {v} {r} {redo} {k} formed =
+pub turn_start : {v : Volume} {r : Run} {redo : Bool} {k : ℕ} → WellFormed v → Turn v r redo k v r 1
+turn_start {v} {r} {redo} {k} formed =
     let e : length (view v).table.files + 1 - 1 ≡ length (view v).table.files = omega arith in
     record {
       low = omega arith;
       high = omega arith;
-      left = λ m. rw (rest-all redo (view v) k) (rw e at m);
-      ahead = λ c. record { formed = formed; table = refl; own = refl; headers = λ g h. refl; seen = rw (rest-all redo (view v) k, e) };
+      left = λ m. rw (rest_all redo (view v) k) (rw e at m);
+      ahead = λ c. record { formed = formed; table = refl; own = refl; headers = λ g h. refl; seen = rw (rest_all redo (view v) k, e) };
     }
 
 module _ {v₀ : Volume} {r₀ : Run} {redo : Bool} {k : ℕ} {v : Volume} {r : Run} {f : ℕ} (client : IsClient (view v₀).table k)
     (t : Turn v₀ r₀ redo k v r f) where
-  pub turn-formed : r.crashed ≡ false → WellFormed v × IsClient (view v).table k
-  turn-formed c = ((t.ahead c).formed, rw (t.ahead c).table client)
+  pub turn_formed : r.crashed ≡ false → WellFormed v × IsClient (view v).table k
+  turn_formed c = ((t.ahead c).formed, rw (t.ahead c).table client)
 
-  pub turn-file : f ≤ length (view v₀).table.files → r.crashed ≡ false → IsFile (view v).table f
-  turn-file h c = rw (t.ahead c).table (record { low = t.low; high = h })
+  pub turn_file : f ≤ length (view v₀).table.files → r.crashed ≡ false → IsFile (view v).table f
+  turn_file h c = rw (t.ahead c).table (record { low = t.low; high = h })
 
   -- One file.
-  module _ (h : f ≤ length (view v₀).table.files) {w : Volume} {q : Run} (m : UpdatesMade v r (releaseOf redo (view v) k f) w q) where
-    same : r.crashed ≡ false → releaseOf redo (view v) k f ≡ releaseOf redo (view v₀) k f
-    same c = release-same redo (view v₀) k (view v) f (t.ahead c).own ((t.ahead c).headers f (omega arith))
+  module _ (h : f ≤ length (view v₀).table.files) {w : Volume} {q : Run} (m : UpdatesMade v r (release_of redo (view v) k f) w q) where
+    same : r.crashed ≡ false → release_of redo (view v) k f ≡ release_of redo (view v₀) k f
+    same c = release_same redo (view v₀) k (view v) f (t.ahead c).own ((t.ahead c).headers f (omega arith))
 
-    made : q.crashed ≡ false → AllMade v (releaseOf redo (view v) k f) w
-    made c = release-all redo k f (turn-formed (made-going m c)).0 (turn-file h (made-going m c)) m c
+    made : q.crashed ≡ false → AllMade v (release_of redo (view v) k f) w
+    made c = release_all redo k f (turn_formed (made_going m c)).0 (turn_file h (made_going m c)) m c
 
     abbrev later : List Update
-    later = rest redo (view v₀) k (filesFrom (view v₀) (f + 1))
+    later = rest redo (view v₀) k (files_from (view v₀) (f + 1))
 
-    split : rest redo (view v₀) k (filesFrom (view v₀) f) ≡ releaseOf redo (view v₀) k f ++ later
+    split : rest redo (view v₀) k (files_from (view v₀) f) ≡ release_of redo (view v₀) k f ++ later
     split =
         let n = length (view v₀).table.files in
         let e : n + 1 - f ≡ suc (n + 1 - (f + 1)) = omega arith in
         let s : suc f ≡ f + 1 = omega arith in
-        ap (λ (i : ℕ). rest redo (view v₀) k (from f i)) e ∙ rest-more redo (view v₀) k f (from (suc f) (n + 1 - (f + 1))) ∙ rw s
+        ap (λ (i : ℕ). rest redo (view v₀) k (from f i)) e ∙ rest_more redo (view v₀) k f (from (suc f) (n + 1 - (f + 1))) ∙ rw s
 
-    pub turn-more : Turn v₀ r₀ redo k w q (f + 1)
-    turn-more = record {
+    pub turn_more : Turn v₀ r₀ redo k w q (f + 1)
+    turn_more = record {
       low = omega arith;
       high = omega arith;
-      left = λ n. t.left (rw split (made-more (λ c. all-table _ (made c)) (made-same same m) n));
+      left = λ n. t.left (rw split (made_more (λ c. all_table _ (made c)) (made_same same m) n));
       ahead = λ c.
-          let x = t.ahead (made-going m c) in
+          let x = t.ahead (made_going m c) in
           let d = made c in
           record {
             formed = d.formed;
-            table = all-table _ d ∙ x.table;
-            own = ap (λ (b : View). b.records k) d.seen ∙ ap (λ (rs : ℕ → Record). rs k) (release-records redo (view v) k f (view v)) ∙ x.own;
-            headers = λ g l. ap (λ (b : View). b.headers g) d.seen ∙ release-other redo (view v) k f g (view v) (omega arith) ∙ x.headers g (omega arith);
-            seen = ap (λ (b : View). changedBy b later) (d.seen ∙ ap (changedBy (view v)) (same (made-going m c)))
-                ∙ sym (changed-append (releaseOf redo (view v₀) k f) later (view v)) ∙ ap (changedBy (view v)) (sym split) ∙ x.seen;
+            table = all_table _ d ∙ x.table;
+            own = ap (λ (b : View). b.records k) d.seen ∙ ap (λ (rs : ℕ → Record). rs k) (release_records redo (view v) k f (view v)) ∙ x.own;
+            headers = λ g l. ap (λ (b : View). b.headers g) d.seen ∙ release_other redo (view v) k f g (view v) (omega arith) ∙ x.headers g (omega arith);
+            seen = ap (λ (b : View). changed_by b later) (d.seen ∙ ap (changed_by (view v)) (same (made_going m c)))
+                ∙ sym (changed_append (release_of redo (view v₀) k f) later (view v)) ∙ ap (changed_by (view v)) (sym split) ∙ x.seen;
           };
     }
 
   -- The record, after the last file.
-  pub turn-end : length (view v₀).table.files < f → {u : Volume} {q : Run} → UpdatesMade v r (setRecord k idleRecord ∷ []) u q
+  pub turn_end : length (view v₀).table.files < f → {u : Volume} {q : Run} → UpdatesMade v r (set_record k idle_record ∷ []) u q
       → UpdatesMade v₀ r₀ (recovery redo (view v₀) k) u q × (q.crashed ≡ false → AllMade v₀ (recovery redo (view v₀) k) u)
-  turn-end h m =
+  turn_end h m =
       let e : length (view v₀).table.files + 1 - f ≡ 0 = omega (arith, t.high) in (
         t.left (rw e m),
         λ c.
-            let x = t.ahead (made-going m c) in
-            let d = all-one _ x.formed (rw x.table (client.low, client.high, idle-fits (view v).table)) m c in
+            let x = t.ahead (made_going m c) in
+            let d = all_one _ x.formed (rw x.table (client.low, client.high, idle_fits (view v).table)) m c in
             record { formed = d.formed; seen = d.seen ∙ rw e at x.seen },
       )
 
 -- ------------------------------------------------------------------ what recovery leaves
 -- A header is what was set for it, if it isn't so before.
-headers-set : (h : ℕ → Header) (k : ℕ) (r : Record) (f : ℕ) (fs : List ℕ) (b : View) → (member f fs ≡ false → b.headers f ≡ h f)
-    → (changedBy b (map (λ g. setHeader g (h g)) fs ++ (setRecord k r ∷ []))).headers f ≡ h f
-headers-set h k r f [] b start = start refl
-headers-set h k r f (g ∷ gs) b start = headers-set h k r f gs (changed b (setHeader g (h g)))
-    (λ e. if-equal (λ (x : Header). x ≡ h f) f g (h g) (b.headers f) (λ q. ap h (sym q)) (λ n. start (rw (ne_eqb f g n) e)))
+headers_set : (h : ℕ → Header) (k : ℕ) (r : Record) (f : ℕ) (fs : List ℕ) (b : View) → (member f fs ≡ false → b.headers f ≡ h f)
+    → (changed_by b (map (λ g. set_header g (h g)) fs ++ (set_record k r ∷ []))).headers f ≡ h f
+headers_set h k r f [] b start = start refl
+headers_set h k r f (g ∷ gs) b start = headers_set h k r f gs (changed b (set_header g (h g)))
+    (λ e. if_equal (λ (x : Header). x ≡ h f) f g (h g) (b.headers f) (λ q. ap h (sym q)) (λ n. start (rw (ne_eqb f g n) e)))
 
-pub recovered-header : (redo : Bool) (a : View) (k f : ℕ) → IsFile a.table f → (a.headers f).holder ≡ k
-    → (changedBy a (recovery redo a k)).headers f ≡ freed redo a k f
+pub recovered_header : (redo : Bool) (a : View) (k f : ℕ) → IsFile a.table f → (a.headers f).holder ≡ k
+    → (changed_by a (recovery redo a k)).headers f ≡ freed redo a k f
 unfolding recovery
-recovered-header redo a k f i e = headers-set (freed redo a k) k idleRecord f (heldFiles a k) a (λ out. no-both _ (held-member a k f i e) out)
+recovered_header redo a k f i e = headers_set (freed redo a k) k idle_record f (held_files a k) a (λ out. no_both _ (held_member a k f i e) out)

@@ -13,49 +13,49 @@ use Rattle.interface.specs.declared.Session.{Session}
 use Rattle.sector.specs.Contents.{Bytes}
 use Rattle.volume.specs.Volumes.{Volume}
 use Rattle.text.specs.Writes.{Wrote}
-use Rattle.lists.proofs.ListLaws.{sets-append}
-use Rattle.atomicity.specs.Model.{Model, newModel}
-use Rattle.atomicity.specs.Runs.{Step, Configuration, stepped, ranOver}
-use Rattle.atomicity.specs.Transcripts.{Event, eventOf, eventsOf}
+use Rattle.lists.proofs.ListLaws.{sets_append}
+use Rattle.atomicity.specs.Model.{Model, new_model}
+use Rattle.atomicity.specs.Runs.{Step, Configuration, stepped, ran_over}
+use Rattle.atomicity.specs.Transcripts.{Event, event_of, events_of}
 use Rattle.commands.specs.declared.Command.{Command}
 use Rattle.commands.specs.declared.Performed.{Performed}
-use Rattle.commands.specs.Commands.{stepOf, runOf, IsPerformed}
-use Rattle.replay.specs.Scripts.{commandIn, isWhole, stepIn, steps}
-use Rattle.replay.specs.Transcripts.{entryOf, transcript, entryLength, transcriptLength}
-use Rattle.replay.specs.Replays.{Left, ran, hasRoom, runLeft}
+use Rattle.commands.specs.Commands.{step_of, run_of, IsPerformed}
+use Rattle.replay.specs.Scripts.{command_in, is_whole, step_in, steps}
+use Rattle.replay.specs.Transcripts.{entry_of, transcript, entry_length, transcript_length}
+use Rattle.replay.specs.Replays.{Left, ran, has_room, run_left}
 use Rattle.replay.specs.Walks.{noted, IsAnswer, IsStepped}
-use Rattle.replay.proofs.ScriptLaws.{Whole, steps-at, steps-none, step-data}
-use Rattle.replay.proofs.TranscriptLaws.{entry-length, transcript-length, sets-front, IsNoted, is-noted}
+use Rattle.replay.proofs.ScriptLaws.{Whole, steps_at, steps_none, step_data}
+use Rattle.replay.proofs.TranscriptLaws.{entry_length_lem, transcript_length_lem, sets_front, IsNoted, is_noted}
 
 -- ------------------------------------------------------------------ one step
 -- The step of n bytes at `at` was performed by its command c with its data d.
 module _ (script : Bytes) (at n : ℕ) {v w : Volume} {s : Session} {c : Command} {d : Bytes} {p : Performed}
-    (whole : Whole (drop at script) n) (i : c ≡ commandIn (drop at script)) (j : d ≡ take (at + n - (at + 8)) (drop (at + 8) script))
-    (h : (m : Model) → IsPerformed (runOf v s m) (stepOf c d) p w) where
-  step-is : stepIn (drop at script) ≡ stepOf c d
-  step-is = step-data script at n whole ∙ rw (i, j)
+    (whole : Whole (drop at script) n) (i : c ≡ command_in (drop at script)) (j : d ≡ take (at + n - (at + 8)) (drop (at + 8) script))
+    (h : (m : Model) → IsPerformed (run_of v s m) (step_of c d) p w) where
+  step_is : step_in (drop at script) ≡ step_of c d
+  step_is = step_data script at n whole ∙ rw (i, j)
 
-  performed : (m : Model) → IsPerformed (runOf v s m) (stepIn (drop at script)) p w
-  performed m = rw step-is (h m)
+  performed : (m : Model) → IsPerformed (run_of v s m) (step_in (drop at script)) p w
+  performed m = rw step_is (h m)
 
-  step-noted : (m : Model) → IsNoted (runOf v s m) (stepIn (drop at script)) w s c p
-  step-noted m = rw step-is (is-noted v w s m c d p (h m))
+  step_noted : (m : Model) → IsNoted (run_of v s m) (step_in (drop at script)) w s c p
+  step_noted m = rw step_is (is_noted v w s m c d p (h m))
 
-  pub entry-answer : IsAnswer w s c p.told
-  entry-answer = (step-noted newModel).answer
+  pub entry_answer : IsAnswer w s c p.told
+  entry_answer = (step_noted new_model).answer
 
-  pub entry-room : (to room : ℕ) → to + entryLength (stepIn (drop at script)) ≤ room
-      → to + length (entryOf (noted w s c p.told p.session)) ≤ room
-  entry-room to room g =
-      let e = ap (λ (x : Event). length (entryOf x)) (step-noted newModel).event in
-      omega (arith, e, entry-length (runOf v s newModel) (stepIn (drop at script)))
+  pub entry_room : (to room : ℕ) → to + entry_length (step_in (drop at script)) ≤ room
+      → to + length (entry_of (noted w s c p.told p.session)) ≤ room
+  entry_room to room g =
+      let e = ap (λ (x : Event). length (entry_of x)) (step_noted new_model).event in
+      omega (arith, e, entry_length_lem (run_of v s new_model) (step_in (drop at script)))
 
-  pub is-stepped : {b e : Bytes} {to next : ℕ} → Wrote b to (entryOf (noted w s c p.told p.session)) e next
-      → (m : Model) → IsStepped (runOf v s m) (stepIn (drop at script)) w p.session b to e next
-  is-stepped g m = record {
+  pub is_stepped : {b e : Bytes} {to next : ℕ} → Wrote b to (entry_of (noted w s c p.told p.session)) e next
+      → (m : Model) → IsStepped (run_of v s m) (step_in (drop at script)) w p.session b to e next
+  is_stepped g m = record {
     volume = (performed m).volume;
     session = (performed m).session;
-    entry = rw (← (step-noted m).event) g;
+    entry = rw (← (step_noted m).event) g;
   }
 
 -- ------------------------------------------------------------------ the steps so far
@@ -63,68 +63,68 @@ module _ (script : Bytes) (at n : ℕ) {v w : Volume} {s : Session} {c : Command
 -- script, and the transcript up to `to` is in `out`.
 pub record Going (r : Configuration) (script out₀ : Bytes) (v : Volume) (s : Session) (at : ℕ) (out : Bytes) (to : ℕ) : Type 0 where
   pub model : Model
-  pub run : ranOver r (steps script) ≡ ranOver (runOf v s model) (steps (drop at script))
-  pub text : sets out₀ 0 (transcript (eventsOf r (steps script))) ≡ sets out to (transcript (eventsOf (runOf v s model) (steps (drop at script))))
+  pub run : ran_over r (steps script) ≡ ran_over (run_of v s model) (steps (drop at script))
+  pub text : sets out₀ 0 (transcript (events_of r (steps script))) ≡ sets out to (transcript (events_of (run_of v s model) (steps (drop at script))))
 
-pub going-start : (v : Volume) (s : Session) (m : Model) (script out : Bytes) → Going (runOf v s m) script out v s 0 out 0
-going-start v s m script out = record { model = m; run = refl; text = refl }
+pub going_start : (v : Volume) (s : Session) (m : Model) (script out : Bytes) → Going (run_of v s m) script out v s 0 out 0
+going_start v s m script out = record { model = m; run = refl; text = refl }
 
 -- A run by its parts.
-run-is : (r : Configuration) (w : Volume) (q : Session) → w ≡ r.volume → q ≡ r.session → r ≡ runOf w q r.model
-run-is r w q e f = rw (e, f) refl
+run_is : (r : Configuration) (w : Volume) (q : Session) → w ≡ r.volume → q ≡ r.session → r ≡ run_of w q r.model
+run_is r w q e f = rw (e, f) refl
 
 -- One step more.
 module _ {r : Configuration} {script out₀ : Bytes} {v : Volume} {s : Session} {at : ℕ} {out : Bytes} {to : ℕ} where
-  pub going-more : {w : Volume} {q : Session} {n : ℕ} {c : Bytes} {next : ℕ} → Going r script out₀ v s at out to → Whole (drop at script) n
-      → ((m : Model) → IsStepped (runOf v s m) (stepIn (drop at script)) w q out to c next)
+  pub going_more : {w : Volume} {q : Session} {n : ℕ} {c : Bytes} {next : ℕ} → Going r script out₀ v s at out to → Whole (drop at script) n
+      → ((m : Model) → IsStepped (run_of v s m) (step_in (drop at script)) w q out to c next)
       → Going r script out₀ w q (at + n) c next
-  going-more {w} {q} {n} {c} {next} g whole h =
-      let x : Step = stepIn (drop at script) in
-      let a : Configuration = runOf v s g.model in
+  going_more {w} {q} {n} {c} {next} g whole h =
+      let x : Step = step_in (drop at script) in
+      let a : Configuration = run_of v s g.model in
       let z = h g.model in
-      let e : stepped a x ≡ runOf w q (stepped a x).model = run-is (stepped a x) w q z.volume z.session in
-      let more = steps-at script at n whole in
+      let e : stepped a x ≡ run_of w q (stepped a x).model = run_is (stepped a x) w q z.volume z.session in
+      let more = steps_at script at n whole in
       let rest : List Step = steps (drop (at + n) script) in
-      let d : Bytes = entryOf (eventOf a x) in
+      let d : Bytes = entry_of (event_of a x) in
       record {
         model = (stepped a x).model;
-        run = g.run ∙ ap (ranOver a) more ∙ ap (λ (y : Configuration). ranOver y rest) e;
+        run = g.run ∙ ap (ran_over a) more ∙ ap (λ (y : Configuration). ran_over y rest) e;
         text = g.text
-            ∙ ap (λ (xs : List Step). sets out to (transcript (eventsOf a xs))) more
-            ∙ sets-append d (transcript (eventsOf (stepped a x) rest)) out to
-            ∙ ap (λ (y : Configuration). sets (sets out to d) (to + length d) (transcript (eventsOf y rest))) e
+            ∙ ap (λ (xs : List Step). sets out to (transcript (events_of a xs))) more
+            ∙ sets_append d (transcript (events_of (stepped a x) rest)) out to
+            ∙ ap (λ (y : Configuration). sets (sets out to d) (to + length d) (transcript (events_of y rest))) e
             ∙ rw (z.entry.bytes, z.entry.next);
       }
 
   -- The last one.
-  pub going-end : Going r script out₀ v s at out to → isWhole (drop at script) ≡ false → transcriptLength (steps script) ≤ length out₀
-      → ◌≡◌ {A = Left} (record { answer = ran; session = s; volume = v; out = out }) (runLeft r script out₀)
-  unfolding runLeft
-  going-end g e fits =
-      let none = steps-none (drop at script) e in
-      let i : ranOver r (steps script) ≡ runOf v s g.model = g.run ∙ rw none in
-      let t : sets out₀ 0 (transcript (eventsOf r (steps script))) ≡ out = g.text ∙ rw none in
-      let f = sets-front out₀ (transcript (eventsOf r (steps script))) (omega (arith, transcript-length r (steps script))) in
+  pub going_end : Going r script out₀ v s at out to → is_whole (drop at script) ≡ false → transcript_length (steps script) ≤ length out₀
+      → ◌≡◌ {A = Left} (record { answer = ran; session = s; volume = v; out = out }) (run_left r script out₀)
+  unfolding run_left
+  going_end g e fits =
+      let none = steps_none (drop at script) e in
+      let i : ran_over r (steps script) ≡ run_of v s g.model = g.run ∙ rw none in
+      let t : sets out₀ 0 (transcript (events_of r (steps script))) ≡ out = g.text ∙ rw none in
+      let f = sets_front out₀ (transcript (events_of r (steps script))) (omega (arith, transcript_length_lem r (steps script))) in
       rw (i, ← f, t)
 
 -- The transcript of the script fits.
-pub room-fits : (script : Bytes) (room : ℕ) → hasRoom script room ≡ true → transcriptLength (steps script) ≤ room
-unfolding hasRoom
-room-fits script room e = leb-true (transcriptLength (steps script)) room e
+pub room_fits : (script : Bytes) (room : ℕ) → has_room script room ≡ true → transcript_length (steps script) ≤ room
+unfolding has_room
+room_fits script room e = leb-true (transcript_length (steps script)) room e
 
 -- There is room for the entry of the next step, and then for those of the others.
-pub room-now : (script : Bytes) (at n to room : ℕ) → Whole (drop at script) n → to + transcriptLength (steps (drop at script)) ≤ room
-    → to + entryLength (stepIn (drop at script)) ≤ room
-room-now script at n to room w h =
-    let e = ap transcriptLength (steps-at script at n w) in
+pub room_now : (script : Bytes) (at n to room : ℕ) → Whole (drop at script) n → to + transcript_length (steps (drop at script)) ≤ room
+    → to + entry_length (step_in (drop at script)) ≤ room
+room_now script at n to room w h =
+    let e = ap transcript_length (steps_at script at n w) in
     omega (arith, e)
 
-pub room-then : (r : Configuration) (script : Bytes) (at n to next room : ℕ) → Whole (drop at script) n
-    → next ≡ to + length (entryOf (eventOf r (stepIn (drop at script))))
-    → to + transcriptLength (steps (drop at script)) ≤ room → next + transcriptLength (steps (drop (at + n) script)) ≤ room
-room-then r script at n to next room w i h =
-    let e = ap transcriptLength (steps-at script at n w) in
-    omega (arith, e, entry-length r (stepIn (drop at script)))
+pub room_then : (r : Configuration) (script : Bytes) (at n to next room : ℕ) → Whole (drop at script) n
+    → next ≡ to + length (entry_of (event_of r (step_in (drop at script))))
+    → to + transcript_length (steps (drop at script)) ≤ room → next + transcript_length (steps (drop (at + n) script)) ≤ room
+room_then r script at n to next room w i h =
+    let e = ap transcript_length (steps_at script at n w) in
+    omega (arith, e, entry_length_lem r (step_in (drop at script)))
 
 -- ------------------------------------------------------------------ the room that is left
 less : (e x left : ℕ) → e ≤ left → leb (e + x) left ≡ leb x (left - e)
@@ -135,15 +135,15 @@ less e x left h = go (leb x (left - e)) refl
     go false i = lt-leb (e + x) left (omega (arith, leb-false x (left - e) i))
 
 -- Before a step whose entry has e bytes.
-module _ (script : Bytes) (at n left e : ℕ) (w : Whole (drop at script) n) (i : e ≡ entryLength (stepIn (drop at script))) where
-  pub room-left : e ≤ left
-      → leb (transcriptLength (steps (drop at script))) left ≡ leb (transcriptLength (steps (drop (at + n) script))) (left - e)
-  room-left h = rw (steps-at script at n w, ← i) (less e (transcriptLength (steps (drop (at + n) script))) left h)
+module _ (script : Bytes) (at n left e : ℕ) (w : Whole (drop at script) n) (i : e ≡ entry_length (step_in (drop at script))) where
+  pub room_left : e ≤ left
+      → leb (transcript_length (steps (drop at script))) left ≡ leb (transcript_length (steps (drop (at + n) script))) (left - e)
+  room_left h = rw (steps_at script at n w, ← i) (less e (transcript_length (steps (drop (at + n) script))) left h)
 
-  pub room-over : left < e → leb (transcriptLength (steps (drop at script))) left ≡ false
-  room-over h =
-      let k = ap transcriptLength (steps-at script at n w) in
-      lt-leb (transcriptLength (steps (drop at script))) left (omega (arith, k, i))
+  pub room_over : left < e → leb (transcript_length (steps (drop at script))) left ≡ false
+  room_over h =
+      let k = ap transcript_length (steps_at script at n w) in
+      lt-leb (transcript_length (steps (drop at script))) left (omega (arith, k, i))
 
-pub room-none : (script : Bytes) (at left : ℕ) → isWhole (drop at script) ≡ false → leb (transcriptLength (steps (drop at script))) left ≡ true
-room-none script at left e = rw (steps-none (drop at script) e) (le-leb 0 left (omega arith))
+pub room_none : (script : Bytes) (at left : ℕ) → is_whole (drop at script) ≡ false → leb (transcript_length (steps (drop at script))) left ≡ true
+room_none script at left e = rw (steps_none (drop at script) e) (le-leb 0 left (omega arith))

@@ -12,97 +12,97 @@ use lib.Seq.{drop-drop, get_or-drop}
 use Rattle.lists.specs.Lists.{when◌then◌else◌}
 use Rattle.sector.specs.Contents.{Bytes}
 use Rattle.sector.specs.Sectors.{byte, word}
-use Rattle.lists.proofs.ListLaws.{and-left, and-right}
+use Rattle.lists.proofs.ListLaws.{and_left, and_right}
 use Rattle.atomicity.specs.Runs.{Step}
-use Rattle.commands.specs.Commands.{stepOf}
-use Rattle.replay.specs.Scripts.{commandIn, stepSize, isWhole, stepIn, stepsFrom, steps}
-use Rattle.replay.specs.Walks.{stepLength}
+use Rattle.commands.specs.Commands.{step_of}
+use Rattle.replay.specs.Scripts.{command_in, step_size, is_whole, step_in, steps_from, steps}
+use Rattle.replay.specs.Walks.{step_length}
 
 -- ------------------------------------------------------------------ whole steps
-pub short-none : (l : Bytes) → length l < 8 → isWhole l ≡ false
-unfolding isWhole
-short-none l h = rw (lt-leb 8 (length l) h)
+pub short_none : (l : Bytes) → length l < 8 → is_whole l ≡ false
+unfolding is_whole
+short_none l h = rw (lt-leb 8 (length l) h)
 
-pub cut-none : (l : Bytes) → 8 ≤ length l → length l < stepSize l → isWhole l ≡ false
-unfolding isWhole
-cut-none l h g = rw (le-leb 8 (length l) h, lt-leb (stepSize l) (length l) g)
+pub cut_none : (l : Bytes) → 8 ≤ length l → length l < step_size l → is_whole l ≡ false
+unfolding is_whole
+cut_none l h g = rw (le-leb 8 (length l) h, lt-leb (step_size l) (length l) g)
 
-pub fits-whole : (l : Bytes) → 8 ≤ length l → stepSize l ≤ length l → isWhole l ≡ true
-unfolding isWhole
-fits-whole l h g = rw (le-leb 8 (length l) h, le-leb (stepSize l) (length l) g)
+pub fits_whole : (l : Bytes) → 8 ≤ length l → step_size l ≤ length l → is_whole l ≡ true
+unfolding is_whole
+fits_whole l h g = rw (le-leb 8 (length l) h, le-leb (step_size l) (length l) g)
 
 -- The step of n bytes at the front is whole.
 pub record Whole (l : Bytes) (n : ℕ) : Type 0 where
-  pub isThere : isWhole l ≡ true
-  pub size : n ≡ stepSize l
+  pub is_there : is_whole l ≡ true
+  pub size : n ≡ step_size l
   pub head : 8 ≤ length l
-  pub inside : stepSize l ≤ length l
+  pub inside : step_size l ≤ length l
 
-whole-fits : (l : Bytes) → isWhole l ≡ true → Whole l (stepSize l)
-unfolding isWhole
-whole-fits l e = record {
-  isThere = e;
+whole_fits : (l : Bytes) → is_whole l ≡ true → Whole l (step_size l)
+unfolding is_whole
+whole_fits l e = record {
+  is_there = e;
   size = refl;
-  head = leb-true 8 (length l) (and-left (leb 8 (length l)) _ e);
-  inside = leb-true (stepSize l) (length l) (and-right (leb 8 (length l)) _ e);
+  head = leb-true 8 (length l) (and_left (leb 8 (length l)) _ e);
+  inside = leb-true (step_size l) (length l) (and_right (leb 8 (length l)) _ e);
 }
 
-pub no-step : (l : Bytes) (n : ℕ) → n ≡ stepLength l → n ≡ 0 → isWhole l ≡ false
-unfolding stepLength
-no-step l n e z = go (isWhole l) refl
+pub no_step : (l : Bytes) (n : ℕ) → n ≡ step_length l → n ≡ 0 → is_whole l ≡ false
+unfolding step_length
+no_step l n e z = go (is_whole l) refl
   where
-    go : (b : Bool) → isWhole l ≡ b → b ≡ false
+    go : (b : Bool) → is_whole l ≡ b → b ≡ false
     go false i = refl
     go true i = absurd (differ (sym z ∙ e ∙ rw i))
       where
-        differ : 0 ≡ stepSize l → ⊥
+        differ : 0 ≡ step_size l → ⊥
         differ h = omega arith
 
-pub whole-step : (l : Bytes) (n : ℕ) → n ≡ stepLength l → 0 < n → Whole l n
-unfolding stepLength
-whole-step l n e p = go (isWhole l) refl
+pub whole_step : (l : Bytes) (n : ℕ) → n ≡ step_length l → 0 < n → Whole l n
+unfolding step_length
+whole_step l n e p = go (is_whole l) refl
   where
-    go : (b : Bool) → isWhole l ≡ b → Whole l n
-    go true i = let s : n ≡ stepSize l = e ∙ rw i in rw s (whole-fits l i)
+    go : (b : Bool) → is_whole l ≡ b → Whole l n
+    go true i = let s : n ≡ step_size l = e ∙ rw i in rw s (whole_fits l i)
     go false i = let z : n ≡ 0 = e ∙ rw i in absurd (omega arith)
 
 -- ------------------------------------------------------------------ the steps of a script
-enough : (n m : ℕ) (l : Bytes) → length l ≤ n → length l ≤ m → stepsFrom n l ≡ stepsFrom m l
-unfolding stepsFrom
+enough : (n m : ℕ) (l : Bytes) → length l ≤ n → length l ≤ m → steps_from n l ≡ steps_from m l
+unfolding steps_from
 enough zero zero l h g = refl
-enough zero (suc m) l h g = rw (short-none l (omega arith))
-enough (suc n) zero l h g = rw (short-none l (omega arith))
+enough zero (suc m) l h g = rw (short_none l (omega arith))
+enough (suc n) zero l h g = rw (short_none l (omega arith))
 enough (suc n) (suc m) l h g =
-    ap (λ (xs : List Step). when isWhole l then stepIn l ∷ xs else [])
-    (enough n m (drop (stepSize l) l) (omega (arith, length-drop (stepSize l) l)) (omega (arith, length-drop (stepSize l) l)))
+    ap (λ (xs : List Step). when is_whole l then step_in l ∷ xs else [])
+    (enough n m (drop (step_size l) l) (omega (arith, length-drop (step_size l) l)) (omega (arith, length-drop (step_size l) l)))
 
 -- One look more finds nothing more.
-one-more : (l : Bytes) → steps l ≡ (when isWhole l then stepIn l ∷ stepsFrom (length l) (drop (stepSize l) l) else [])
-unfolding stepsFrom
-one-more l = enough (length l) (suc (length l)) l (omega arith) (omega arith)
+one_more : (l : Bytes) → steps l ≡ (when is_whole l then step_in l ∷ steps_from (length l) (drop (step_size l) l) else [])
+unfolding steps_from
+one_more l = enough (length l) (suc (length l)) l (omega arith) (omega arith)
 
-pub steps-none : (l : Bytes) → isWhole l ≡ false → steps l ≡ []
-steps-none l e = one-more l ∙ rw e
+pub steps_none : (l : Bytes) → is_whole l ≡ false → steps l ≡ []
+steps_none l e = one_more l ∙ rw e
 
-pub steps-more : (l : Bytes) → isWhole l ≡ true → steps l ≡ stepIn l ∷ steps (drop (stepSize l) l)
-steps-more l e =
-    one-more l
-    ∙ rw e (ap (◌∷◌ (stepIn l)) (enough (length l) (length (drop (stepSize l) l)) (drop (stepSize l) l) (omega (arith, length-drop (stepSize l) l)) (omega arith)))
+pub steps_more : (l : Bytes) → is_whole l ≡ true → steps l ≡ step_in l ∷ steps (drop (step_size l) l)
+steps_more l e =
+    one_more l
+    ∙ rw e (ap (◌∷◌ (step_in l)) (enough (length l) (length (drop (step_size l) l)) (drop (step_size l) l) (omega (arith, length-drop (step_size l) l)) (omega arith)))
 
 -- The same for the steps from `at` on.
-pub steps-at : (l : Bytes) (at n : ℕ) → Whole (drop at l) n → steps (drop at l) ≡ stepIn (drop at l) ∷ steps (drop (at + n) l)
-steps-at l at n w =
-    steps-more (drop at l) w.isThere
-    ∙ rw (drop-drop (stepSize (drop at l)) at l, ← w.size)
+pub steps_at : (l : Bytes) (at n : ℕ) → Whole (drop at l) n → steps (drop at l) ≡ step_in (drop at l) ∷ steps (drop (at + n) l)
+steps_at l at n w =
+    steps_more (drop at l) w.is_there
+    ∙ rw (drop-drop (step_size (drop at l)) at l, ← w.size)
 
 -- ------------------------------------------------------------------ the bytes of a step
-pub byte-at : (l : Bytes) (at i : ℕ) → byte (drop at l) i ≡ byte l (at + i)
-byte-at l at i = get_or-drop at l i 0
+pub byte_at : (l : Bytes) (at i : ℕ) → byte (drop at l) i ≡ byte l (at + i)
+byte_at l at i = get_or-drop at l i 0
 
 -- The step is its command with its data.
-pub step-data : (l : Bytes) (at n : ℕ) → Whole (drop at l) n
-    → stepIn (drop at l) ≡ stepOf (commandIn (drop at l)) (take (at + n - (at + 8)) (drop (at + 8) l))
-unfolding stepIn
-step-data l at n w =
+pub step_data : (l : Bytes) (at n : ℕ) → Whole (drop at l) n
+    → step_in (drop at l) ≡ step_of (command_in (drop at l)) (take (at + n - (at + 8)) (drop (at + 8) l))
+unfolding step_in
+step_data l at n w =
     let e : at + n - (at + 8) ≡ word (drop at l) 6 = omega (arith, w.size) in
     rw (e, drop-drop)

@@ -9,219 +9,219 @@ use Rattle.interface.specs.declared.Session.{Session}
 use Rattle.interface.specs.declared.Refusal.{Refusal}
 use Rattle.interface.specs.declared.Outcome.{Outcome}
 use Rattle.interface.specs.declared.QueryOutcome.{QueryOutcome}
-use Rattle.interface.specs.Answers.{Answer, done, crashed, refused, QueryAnswer, found, queryRefused, refusalNumber, answerOf, queryAnswerOf}
+use Rattle.interface.specs.Answers.{Answer, done, crashed, refused, QueryAnswer, found, query_refused, refusal_number, answer_of, query_answer_of}
 use Rattle.sector.specs.Contents.{Bytes}
-use Rattle.sector.specs.Sectors.{sector, byte, word, padded, zeroSector}
+use Rattle.sector.specs.Sectors.{sector, byte, word, padded, zero_sector}
 use Rattle.volume.specs.Volumes.{Volume}
-use Rattle.sector.proofs.CodecLaws.{padded-length}
-use Rattle.sector.proofs.SectorLaws.{sector-length}
-use Rattle.calls.proofs.PageLaws.{Inside, query-inside}
+use Rattle.sector.proofs.CodecLaws.{padded_length}
+use Rattle.sector.proofs.SectorLaws.{sector_length}
+use Rattle.calls.proofs.PageLaws.{Inside, query_inside}
 use Rattle.rules.specs.Plans.{Call, Query}
-use Rattle.rules.specs.Calls.{query, partOf, queryPart}
-use Rattle.text.specs.Writes.{Wrote, atFront}
+use Rattle.rules.specs.Calls.{query, part_of, query_part}
+use Rattle.text.specs.Writes.{Wrote, at_front}
 use Rattle.atomicity.specs.Model.{Model}
 use Rattle.atomicity.specs.Runs.{Step, calls, asks, Configuration, given, stepped}
-use Rattle.atomicity.specs.Transcripts.{StepAnswer, ofCall, ofQuery, eventOf, eventsOf}
+use Rattle.atomicity.specs.Transcripts.{StepAnswer, of_call, of_query, event_of, events_of}
 use Rattle.commands.specs.declared.Action.{Action}
 use Rattle.commands.specs.declared.Command.{Command}
 use Rattle.commands.specs.declared.Told.{Told}
 use Rattle.commands.specs.declared.Performed.{Performed}
-use Rattle.commands.specs.Commands.{queryOf, stepBy, stepOf, toldOf, runOf, IsPerformed}
-use Rattle.commands.proofs.CommandLaws.{step-by}
-use Rattle.replay.specs.Scripts.{actionOf, commandIn, stepIn}
-use Rattle.replay.specs.Transcripts.{headBytes, answerBytes, entryOf, transcript, entryLength, transcriptLength}
-use Rattle.replay.specs.Walks.{actionLength, noted, IsAnswer}
+use Rattle.commands.specs.Commands.{query_of, step_by, step_of, told_of, run_of, IsPerformed}
+use Rattle.commands.proofs.CommandLaws.{step_by_lem}
+use Rattle.replay.specs.Scripts.{action_of, command_in, step_in}
+use Rattle.replay.specs.Transcripts.{head_bytes, answer_bytes, entry_of, transcript, entry_length, transcript_length}
+use Rattle.replay.specs.Walks.{action_length, noted, IsAnswer}
 
 -- ------------------------------------------------------------------ lengths
-head-length : (k n : ℕ) (s : Session) → length (headBytes k n s) ≡ 12
-unfolding headBytes
-head-length k n s = refl
+head_length : (k n : ℕ) (s : Session) → length (head_bytes k n s) ≡ 12
+unfolding head_bytes
+head_length k n s = refl
 
-pub answer-length : (x : StepAnswer) (s : Session) → length (answerBytes x s) ≡ 12
-answer-length (ofCall (done n)) s = head-length 0 n s
-answer-length (ofCall (crashed n)) s = head-length 1 n s
-answer-length (ofCall (refused n)) s = head-length 2 n s
-answer-length (ofQuery (found n)) s = head-length 3 n s
-answer-length (ofQuery (queryRefused n)) s = head-length 2 n s
+pub answer_length : (x : StepAnswer) (s : Session) → length (answer_bytes x s) ≡ 12
+answer_length (of_call (done n)) s = head_length 0 n s
+answer_length (of_call (crashed n)) s = head_length 1 n s
+answer_length (of_call (refused n)) s = head_length 2 n s
+answer_length (of_query (found n)) s = head_length 3 n s
+answer_length (of_query (query_refused n)) s = head_length 2 n s
 
-part-length : (v : Volume) (x : QueryAnswer) → length (partOf v x) ≤ 256
+part_length : (v : Volume) (x : QueryAnswer) → length (part_of v x) ≤ 256
 unfolding sector
-part-length v (found n) = omega (arith, length-take 256 (drop (256 * n) v))
-part-length v (queryRefused n) = omega arith
+part_length v (found n) = omega (arith, length-take 256 (drop (256 * n) v))
+part_length v (query_refused n) = omega arith
 
-pub call-length : (x : Answer) (s : Session) (b d : Bytes)
-    → length (entryOf (record { answer = ofCall x; session = s; bytes = b; part = d })) ≡ 12
-unfolding entryOf
-call-length x s b d = length-append (answerBytes (ofCall x) s) [] ∙ omega (arith, answer-length (ofCall x) s)
+pub call_length : (x : Answer) (s : Session) (b d : Bytes)
+    → length (entry_of (record { answer = of_call x; session = s; bytes = b; part = d })) ≡ 12
+unfolding entry_of
+call_length x s b d = length-append (answer_bytes (of_call x) s) [] ∙ omega (arith, answer_length (of_call x) s)
 
-pub query-length : (x : QueryAnswer) (s : Session) (b d : Bytes) → length b ≤ 256 → length d ≤ 256
-    → length (entryOf (record { answer = ofQuery x; session = s; bytes = b; part = d })) ≡ 524
-unfolding entryOf
-query-length x s b d h g =
-    length-append (answerBytes (ofQuery x) s) (padded b ++ padded d)
-    ∙ omega (arith, answer-length (ofQuery x) s, length-append (padded b) (padded d), padded-length b h, padded-length d g)
+pub query_length : (x : QueryAnswer) (s : Session) (b d : Bytes) → length b ≤ 256 → length d ≤ 256
+    → length (entry_of (record { answer = of_query x; session = s; bytes = b; part = d })) ≡ 524
+unfolding entry_of
+query_length x s b d h g =
+    length-append (answer_bytes (of_query x) s) (padded b ++ padded d)
+    ∙ omega (arith, answer_length (of_query x) s, length-append (padded b) (padded d), padded_length b h, padded_length d g)
 
-pub entry-length : (r : Configuration) (x : Step) → length (entryOf (eventOf r x)) ≡ entryLength x
-entry-length r (calls crash c budget) = call-length _ _ [] []
-entry-length r (asks crash q) =
+pub entry_length_lem : (r : Configuration) (x : Step) → length (entry_of (event_of r x)) ≡ entry_length x
+entry_length_lem r (calls crash c budget) = call_length _ _ [] []
+entry_length_lem r (asks crash q) =
     let a = query r.volume (given crash r.session) q in
-    query-length a r.session (partOf r.volume a) (partOf r.volume a) (part-length r.volume a) (part-length r.volume a)
+    query_length a r.session (part_of r.volume a) (part_of r.volume a) (part_length r.volume a) (part_length r.volume a)
 
-pub transcript-length : (r : Configuration) (xs : List Step) → length (transcript (eventsOf r xs)) ≡ transcriptLength xs
-transcript-length r [] = refl
-transcript-length r (x ∷ xs) =
-    length-append (entryOf (eventOf r x)) (transcript (eventsOf (stepped r x) xs))
-    ∙ omega (arith, entry-length r x, transcript-length (stepped r x) xs)
+pub transcript_length_lem : (r : Configuration) (xs : List Step) → length (transcript (events_of r xs)) ≡ transcript_length xs
+transcript_length_lem r [] = refl
+transcript_length_lem r (x ∷ xs) =
+    length-append (entry_of (event_of r x)) (transcript (events_of (stepped r x) xs))
+    ∙ omega (arith, entry_length_lem r x, transcript_length_lem (stepped r x) xs)
 
 -- A text that fits stands at the front.
-pub sets-front : (out d : Bytes) → length d ≤ length out → sets out 0 d ≡ atFront d out
-sets-front out d h =
+pub sets_front : (out d : Bytes) → length d ≤ length out → sets out 0 d ≡ at_front d out
+sets_front out d h =
     let z : 0 + length d ≡ length d = omega arith in
     sets-eq d out 0 (omega arith) ∙ rw z
 
 -- A sector needs no padding.
-pub padded-page : (l : Bytes) → length l ≡ 256 → padded l ≡ l
+pub padded_page : (l : Bytes) → length l ≡ 256 → padded l ≡ l
 unfolding padded
-padded-page l h =
+padded_page l h =
     let z : 256 - length l ≡ 0 = omega arith in
     rw z (append-nil l)
 
 -- ------------------------------------------------------------------ what is noted of a command
-noted-call : (v : Volume) (s : Session) (c : Command) (t : Told) (q : Session) (x : Answer) → toldOf t ≡ ofCall x
-    → noted v s c t q ≡ record { answer = ofCall x; session = q; bytes = []; part = [] }
-noted-call v s c (Told.Call o) q x e = rw e
-noted-call v s c (Told.Query o) q x e = cc
+noted_call : (v : Volume) (s : Session) (c : Command) (t : Told) (q : Session) (x : Answer) → told_of t ≡ of_call x
+    → noted v s c t q ≡ record { answer = of_call x; session = q; bytes = []; part = [] }
+noted_call v s c (Told.Call o) q x e = rw e
+noted_call v s c (Told.Query o) q x e = cc
 
-noted-query : (v : Volume) (s : Session) (c : Command) (t : Told) (q : Session) (x : QueryAnswer) → toldOf t ≡ ofQuery x
+noted_query : (v : Volume) (s : Session) (c : Command) (t : Told) (q : Session) (x : QueryAnswer) → told_of t ≡ of_query x
     → noted v s c t q ≡ record {
-      answer = ofQuery x;
+      answer = of_query x;
       session = q;
-      bytes = partOf v x;
-      part = queryPart v (given c.crash s) (queryOf c);
+      bytes = part_of v x;
+      part = query_part v (given c.crash s) (query_of c);
     }
-noted-query v s c (Told.Query o) q x e =
-    let a : queryAnswerOf o ≡ x = cc in
+noted_query v s c (Told.Query o) q x e =
+    let a : query_answer_of o ≡ x = cc in
     rw a
-noted-query v s c (Told.Call o) q x e = cc
+noted_query v s c (Told.Call o) q x e = cc
 
-is-answer : (v : Volume) (s : Session) (c : Command) (t : Told)
-    → toldOf t ≡ ofQuery (query v (given c.crash s) (queryOf c)) → IsAnswer v s c t
-is-answer v s c (Told.Query o) e = cc
-is-answer v s c (Told.Call o) e = tt
+is_answer : (v : Volume) (s : Session) (c : Command) (t : Told)
+    → told_of t ≡ of_query (query v (given c.crash s) (query_of c)) → IsAnswer v s c t
+is_answer v s c (Told.Query o) e = cc
+is_answer v s c (Told.Call o) e = tt
 
-any-call : (v : Volume) (s : Session) (c : Command) (t : Told) (x : Answer) → toldOf t ≡ ofCall x → IsAnswer v s c t
-any-call v s c (Told.Call o) x e = tt
-any-call v s c (Told.Query o) x e = absurd (clash (cc))
+any_call : (v : Volume) (s : Session) (c : Command) (t : Told) (x : Answer) → told_of t ≡ of_call x → IsAnswer v s c t
+any_call v s c (Told.Call o) x e = tt
+any_call v s c (Told.Query o) x e = absurd (clash (cc))
   where
     clash : ◌≡◌ {A = ℕ} 0 1 → ⊥
     clash h = omega arith
 
 -- What is noted of a command that was performed is what its step says, and the answer is the one to what it asks.
 pub record IsNoted (r : Configuration) (x : Step) (w : Volume) (s : Session) (c : Command) (p : Performed) : Type 0 where
-  pub event : noted w s c p.told p.session ≡ eventOf r x
+  pub event : noted w s c p.told p.session ≡ event_of r x
   pub answer : IsAnswer w s c p.told
 
 module _ (v w : Volume) (s : Session) (m : Model) (c : Command) (d : Bytes) (p : Performed) where
-  call-noted : (x : Call) (budget : ℕ) → IsPerformed (runOf v s m) (calls c.crash x budget) p w
-      → IsNoted (runOf v s m) (calls c.crash x budget) w s c p
+  call_noted : (x : Call) (budget : ℕ) → IsPerformed (run_of v s m) (calls c.crash x budget) p w
+      → IsNoted (run_of v s m) (calls c.crash x budget) w s c p
   unfolding stepped
-  call-noted x budget h = record {
-    event = noted-call w s c p.told p.session _ h.answer ∙ rw h.session;
-    answer = any-call w s c p.told _ h.answer;
+  call_noted x budget h = record {
+    event = noted_call w s c p.told p.session _ h.answer ∙ rw h.session;
+    answer = any_call w s c p.told _ h.answer;
   }
 
-  query-noted : (q : Query) → queryOf c ≡ q → IsPerformed (runOf v s m) (asks c.crash q) p w → IsNoted (runOf v s m) (asks c.crash q) w s c p
+  query_noted : (q : Query) → query_of c ≡ q → IsPerformed (run_of v s m) (asks c.crash q) p w → IsNoted (run_of v s m) (asks c.crash q) w s c p
   unfolding stepped
-  query-noted q is h = record {
-    event = noted-query w s c p.told p.session _ h.answer ∙ rw (h.session, h.volume, is);
-    answer = is-answer w s c p.told (rw (h.volume, is) h.answer);
+  query_noted q is h = record {
+    event = noted_query w s c p.told p.session _ h.answer ∙ rw (h.session, h.volume, is);
+    answer = is_answer w s c p.told (rw (h.volume, is) h.answer);
   }
 
-  by-action : (a : Action) → c.action ≡ a → IsPerformed (runOf v s m) (stepBy a c d) p w → IsNoted (runOf v s m) (stepBy a c d) w s c p
-  by-action Action.Begin e h = call-noted _ _ h
-  by-action Action.Open e h = call-noted _ _ h
-  by-action Action.OpenRead e h = call-noted _ _ h
-  by-action Action.Write e h = call-noted _ _ h
-  by-action Action.Commit e h = call-noted _ _ h
-  by-action Action.Abort e h = call-noted _ _ h
-  by-action Action.Read e h = query-noted _ (rw e) h
-  by-action Action.Look e h = query-noted _ (rw e) h
+  by_action : (a : Action) → c.action ≡ a → IsPerformed (run_of v s m) (step_by a c d) p w → IsNoted (run_of v s m) (step_by a c d) w s c p
+  by_action Action.Begin e h = call_noted _ _ h
+  by_action Action.Open e h = call_noted _ _ h
+  by_action Action.OpenRead e h = call_noted _ _ h
+  by_action Action.Write e h = call_noted _ _ h
+  by_action Action.Commit e h = call_noted _ _ h
+  by_action Action.Abort e h = call_noted _ _ h
+  by_action Action.Read e h = query_noted _ (rw e) h
+  by_action Action.Look e h = query_noted _ (rw e) h
 
-  pub is-noted : IsPerformed (runOf v s m) (stepOf c d) p w → IsNoted (runOf v s m) (stepOf c d) w s c p
-  is-noted h = rw (step-by c d c.action refl) (by-action c.action refl (rw (step-by c d c.action refl) at h))
+  pub is_noted : IsPerformed (run_of v s m) (step_of c d) p w → IsNoted (run_of v s m) (step_of c d) w s c p
+  is_noted h = rw (step_by_lem c d c.action refl) (by_action c.action refl (rw (step_by_lem c d c.action refl) at h))
 
 -- ------------------------------------------------------------------ entries in code
 -- What was told, and the room that its entry takes.
 module _ (v : Volume) (s : Session) (c : Command) (t : Told) (q : Session) where
-  pub call-entry : (o : Outcome) → t ≡ Told.Call o → answerBytes (ofCall (answerOf o)) q ≡ entryOf (noted v s c t q)
-  unfolding entryOf
-  call-entry o e = rw e (sym (append-nil (answerBytes (ofCall (answerOf o)) q)))
+  pub call_entry : (o : Outcome) → t ≡ Told.Call o → answer_bytes (of_call (answer_of o)) q ≡ entry_of (noted v s c t q)
+  unfolding entry_of
+  call_entry o e = rw e (sym (append-nil (answer_bytes (of_call (answer_of o)) q)))
 
-  pub call-room : (o : Outcome) → t ≡ Told.Call o → length (entryOf (noted v s c t q)) ≡ 12
-  call-room o e = rw e (call-length (answerOf o) q [] [])
+  pub call_room : (o : Outcome) → t ≡ Told.Call o → length (entry_of (noted v s c t q)) ≡ 12
+  call_room o e = rw e (call_length (answer_of o) q [] [])
 
-  pub query-room : (o : QueryOutcome) → t ≡ Told.Query o → length (entryOf (noted v s c t q)) ≡ 524
-  query-room o e = rw e (query-length (queryAnswerOf o) q _ _ (part-length v (queryAnswerOf o)) (part-length v (query v (given c.crash s) (queryOf c))))
+  pub query_room : (o : QueryOutcome) → t ≡ Told.Query o → length (entry_of (noted v s c t q)) ≡ 524
+  query_room o e = rw e (query_length (query_answer_of o) q _ _ (part_length v (query_answer_of o)) (part_length v (query v (given c.crash s) (query_of c))))
 
-  pub query-answer : (o : QueryOutcome) → t ≡ Told.Query o → IsAnswer v s c t
-      → queryAnswerOf o ≡ query v (given c.crash s) (queryOf c)
-  query-answer o e a = rw e at a
+  pub query_answer : (o : QueryOutcome) → t ≡ Told.Query o → IsAnswer v s c t
+      → query_answer_of o ≡ query v (given c.crash s) (query_of c)
+  query_answer o e a = rw e at a
 
-by-length : (a : Action) (c : Command) (d : Bytes) → actionLength a ≡ entryLength (stepBy a c d)
-by-length Action.Begin c d = refl
-by-length Action.Open c d = refl
-by-length Action.OpenRead c d = refl
-by-length Action.Write c d = refl
-by-length Action.Commit c d = refl
-by-length Action.Abort c d = refl
-by-length Action.Read c d = refl
-by-length Action.Look c d = refl
+by_length : (a : Action) (c : Command) (d : Bytes) → action_length a ≡ entry_length (step_by a c d)
+by_length Action.Begin c d = refl
+by_length Action.Open c d = refl
+by_length Action.OpenRead c d = refl
+by_length Action.Write c d = refl
+by_length Action.Commit c d = refl
+by_length Action.Abort c d = refl
+by_length Action.Read c d = refl
+by_length Action.Look c d = refl
 
 -- The entry of the step at the front, by its first byte.
-pub step-entry : (l : Bytes) → actionLength (actionOf (byte l 0)) ≡ entryLength (stepIn l)
-unfolding stepIn commandIn stepOf
-step-entry l = by-length (actionOf (byte l 0)) (commandIn l) (take (word l 6) (drop 8 l))
+pub step_entry : (l : Bytes) → action_length (action_of (byte l 0)) ≡ entry_length (step_in l)
+unfolding step_in command_in step_of
+step_entry l = by_length (action_of (byte l 0)) (command_in l) (take (word l 6) (drop 8 l))
 
 -- The length of the entry of the step at `at`, as it is computed from the step's first byte.
-pub entry-is : (at : ℕ) (l : Bytes) {a : Action} {e : ℕ} → a ≡ actionOf (byte l at) → e ≡ actionLength a → e ≡ entryLength (stepIn (drop at l))
-entry-is at l i j =
+pub entry_is : (at : ℕ) (l : Bytes) {a : Action} {e : ℕ} → a ≡ action_of (byte l at) → e ≡ action_length a → e ≡ entry_length (step_in (drop at l))
+entry_is at l i j =
     let z : at + 0 ≡ at = omega arith in
     let y : byte l at ≡ byte (drop at l) 0 = rw (get_or-drop at l 0 0, z) in
-    j ∙ ap actionLength (i ∙ ap actionOf y) ∙ step-entry (drop at l)
+    j ∙ ap action_length (i ∙ ap action_of y) ∙ step_entry (drop at l)
 
 -- One byte; the two bytes of a number.
-pub wrote-byte : (b : Bytes) (at x : ℕ) → Wrote b at (x ∷ []) (set b at x) (at + 1)
-wrote-byte b at x = record { bytes = refl; next = refl }
+pub wrote_byte : (b : Bytes) (at x : ℕ) → Wrote b at (x ∷ []) (set b at x) (at + 1)
+wrote_byte b at x = record { bytes = refl; next = refl }
 
 -- What was written has kept the length of the buffer.
-pub wrote-length : {b d c : Bytes} {at n : ℕ} → Wrote b at d c n → length c ≡ length b
-wrote-length {b} {d} {c} {at} w = ap length w.bytes ∙ length-sets b at d
+pub wrote_length : {b d c : Bytes} {at n : ℕ} → Wrote b at d c n → length c ≡ length b
+wrote_length {b} {d} {c} {at} w = ap length w.bytes ∙ length-sets b at d
 
-pub behind-head : (k n : ℕ) (s : Session) {b c : Bytes} {at m : ℕ} → Wrote b at (headBytes k n s) c m → m ≡ at + 12
-behind-head k n s {b} {c} {at} w = w.next ∙ ap (λ (i : ℕ). at + i) (head-length k n s)
+pub behind_head : (k n : ℕ) (s : Session) {b c : Bytes} {at m : ℕ} → Wrote b at (head_bytes k n s) c m → m ≡ at + 12
+behind_head k n s {b} {c} {at} w = w.next ∙ ap (λ (i : ℕ). at + i) (head_length k n s)
 
 -- A question's entry, by its outcome.
 module _ (v : Volume) (s : Session) (c : Command) (o : QueryOutcome) (q : Session)
-    (a : queryAnswerOf o ≡ query v (given c.crash s) (queryOf c)) where
-  pub refused-entry : (r : Refusal) → o ≡ QueryOutcome.Refused r
-      → headBytes 2 (refusalNumber r) q ++ (padded [] ++ padded []) ≡ entryOf (noted v s c (Told.Query o) q)
-  unfolding entryOf
-  refused-entry r e = rw (← a, e)
+    (a : query_answer_of o ≡ query v (given c.crash s) (query_of c)) where
+  pub refused_entry : (r : Refusal) → o ≡ QueryOutcome.Refused r
+      → head_bytes 2 (refusal_number r) q ++ (padded [] ++ padded []) ≡ entry_of (noted v s c (Told.Query o) q)
+  unfolding entry_of
+  refused_entry r e = rw (← a, e)
 
-  pub inside-found : (n : ℕ) → o ≡ QueryOutcome.Sector n → (256 * n + 256 ≤ length v) × (n ≤ 65536)
-  inside-found n e = subst (Inside v) (sym a ∙ ap queryAnswerOf e) (query-inside v (given c.crash s) (queryOf c))
+  pub inside_found : (n : ℕ) → o ≡ QueryOutcome.Sector n → (256 * n + 256 ≤ length v) × (n ≤ 65536)
+  inside_found n e = subst (Inside v) (sym a ∙ ap query_answer_of e) (query_inside v (given c.crash s) (query_of c))
 
-  pub found-entry : (n : ℕ) → o ≡ QueryOutcome.Sector n
-      → headBytes 3 n q ++ (sector v n ++ queryPart v (given c.crash s) (queryOf c)) ≡ entryOf (noted v s c (Told.Query o) q)
-  unfolding entryOf
-  found-entry n e =
-      let size : length (sector v n) ≡ 256 = sector-length v n (inside-found n e).0 in
-      rw (← a, e, padded-page (sector v n) size)
+  pub found_entry : (n : ℕ) → o ≡ QueryOutcome.Sector n
+      → head_bytes 3 n q ++ (sector v n ++ query_part v (given c.crash s) (query_of c)) ≡ entry_of (noted v s c (Told.Query o) q)
+  unfolding entry_of
+  found_entry n e =
+      let size : length (sector v n) ≡ 256 = sector_length v n (inside_found n e).0 in
+      rw (← a, e, padded_page (sector v n) size)
 
-pub shown-length : (v : Volume) (s : Session) (q : Query) → length (queryPart v s q) ≤ 256
-shown-length v s q = part-length v (query v s q)
+pub shown_length : (v : Volume) (s : Session) (q : Query) → length (query_part v s q) ≤ 256
+shown_length v s q = part_length v (query v s q)
 
 -- Nothing is padded to zeros.
-pub zeros-padded : padded [] ≡ zeroSector
-unfolding padded zeroSector
-zeros-padded = refl
+pub zeros_padded : padded [] ≡ zero_sector
+unfolding padded zero_sector
+zeros_padded = refl

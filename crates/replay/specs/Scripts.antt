@@ -7,11 +7,11 @@ use Rattle.sector.specs.Sectors.{byte, word}
 use Rattle.atomicity.specs.Runs.{Step}
 use Rattle.commands.specs.declared.Action.{Action}
 use Rattle.commands.specs.declared.Command.{Command}
-use Rattle.commands.specs.Commands.{stepOf}
+use Rattle.commands.specs.Commands.{step_of}
 
 -- 0 begin, 1 open, 2 write, 3 commit, 4 abort, 6 open for reading, 7 look; any other is a read.
-abbrev pub actionOf : ℕ → Action
-actionOf n =
+abbrev pub action_of : ℕ → Action
+action_of n =
     when eqb n 0 then Action.Begin
     else when eqb n 1 then Action.Open
     else when eqb n 2 then Action.Write
@@ -23,9 +23,9 @@ actionOf n =
 
 -- The command of the step at the front. `crash` other than 0: it is given a new session. A question hands back none, so a crash
 -- before it is told again before the call after it.
-unfoldable pub commandIn : Bytes → Command
-commandIn l = record {
-  action = actionOf (byte l 0);
+unfoldable pub command_in : Bytes → Command
+command_in l = record {
+  action = action_of (byte l 0);
   crash = not (eqb (byte l 1) 0);
   client = byte l 2;
   file = byte l 3;
@@ -34,22 +34,22 @@ commandIn l = record {
 }
 
 -- The bytes of the step at the front, with its data.
-abbrev pub stepSize : Bytes → ℕ
-stepSize l = 8 + word l 6
+abbrev pub step_size : Bytes → ℕ
+step_size l = 8 + word l 6
 
 -- A whole step stands at the front.
-unfoldable pub isWhole : Bytes → Bool
-isWhole l = leb 8 (length l) && leb (stepSize l) (length l)
+unfoldable pub is_whole : Bytes → Bool
+is_whole l = leb 8 (length l) && leb (step_size l) (length l)
 
 -- That step.
-unfoldable pub stepIn : Bytes → Step
-stepIn l = stepOf (commandIn l) (take (word l 6) (drop 8 l))
+unfoldable pub step_in : Bytes → Step
+step_in l = step_of (command_in l) (take (word l 6) (drop 8 l))
 
 -- The steps at the front, n at most.
-unfoldable pub stepsFrom : ℕ → Bytes → List Step
-stepsFrom zero l = []
-stepsFrom (suc n) l = when isWhole l then stepIn l ∷ stepsFrom n (drop (stepSize l) l) else []
+unfoldable pub steps_from : ℕ → Bytes → List Step
+steps_from zero l = []
+steps_from (suc n) l = when is_whole l then step_in l ∷ steps_from n (drop (step_size l) l) else []
 
 -- All steps of a script. Bytes at its end that are no whole step say nothing.
 abbrev pub steps : Bytes → List Step
-steps l = stepsFrom (length l) l
+steps l = steps_from (length l) l

@@ -8,10 +8,10 @@ mod steps;
 mod transcript;
 
 ghost use Rattle.std.specs.Prelude.{◌≡◌, length};
-ghost use Rattle.volume.specs.Format.{tableFor};
+ghost use Rattle.volume.specs.Format.{table_for};
 ghost use Rattle.atomicity.specs.Model.{Model};
-ghost use Rattle.commands.specs.Commands.{runOf};
-ghost use Rattle.replay.specs.Replays.{replayAnswerOf, leftBy, replayed, formattedAndRun, AllOrNoneFor, WhereRun};
+ghost use Rattle.commands.specs.Commands.{run_of};
+ghost use Rattle.replay.specs.Replays.{replay_answer_of, left_by, replayed, formatted_and_run, AllOrNoneFor, WhereRun};
 
 use crate::run::run_steps;
 use crate::steps::has_room;
@@ -50,7 +50,7 @@ fn hand_back(e: Ended, s: Session) -> Replayed
 // (`must-fail/last_step_left_out`), be it a read; a script run whose transcript doesn't fit
 // (`must-fail/room_for_calls_only`).
 pub fn replay(v: &mut [u8], s: Session, script: &[u8], out: &mut [u8]) -> Replayed
-    ensures { (m : Model) → leftBy result v.new out.new ≡ replayed (runOf v.old s m) script.now out.old }
+    ensures { (m : Model) → left_by result v.new out.new ≡ replayed (run_of v.old s m) script.now out.old }
 {
     if !has_room(script, out.len()) {
         return hand_back(Ended::NoRoom, s);
@@ -67,9 +67,9 @@ pub fn format_and_replay(
     script: &[u8],
     out: &mut [u8],
 ) -> Replayed
-    ensures out_after { leftBy result v.new out.new ≡ formattedAndRun v.old clients shape.now script.now out.old }
-    ensures where_run { WhereRun (replayAnswerOf result.ended)
-        (AllOrNoneFor (tableFor (length v.old) clients shape.now) script.now v.new out.new) }
+    ensures out_after { left_by result v.new out.new ≡ formatted_and_run v.old clients shape.now script.now out.old }
+    ensures where_run { WhereRun (replay_answer_of result.ended)
+        (AllOrNoneFor (table_for (length v.old) clients shape.now) script.now v.new out.new) }
 {
     if !has_room(script, out.len()) {
         return hand_back(Ended::NoRoom, Session::new());

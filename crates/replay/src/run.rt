@@ -1,11 +1,11 @@
 // The steps of a script performed one after the other, each noted in the transcript.
 ghost use Rattle.std.specs.Prelude.{◌≡◌, ◌+◌, ◌≤◌, ◌<◌, length, drop};
 ghost use Rattle.atomicity.specs.Model.{Model};
-ghost use Rattle.commands.specs.Commands.{runOf};
-ghost use Rattle.replay.specs.Scripts.{steps, stepIn};
-ghost use Rattle.replay.specs.Transcripts.{entryLength, transcriptLength};
-ghost use Rattle.replay.specs.Replays.{runLeft, ran};
-ghost use Rattle.replay.specs.Walks.{stepLength, IsStepped};
+ghost use Rattle.commands.specs.Commands.{run_of};
+ghost use Rattle.replay.specs.Scripts.{steps, step_in};
+ghost use Rattle.replay.specs.Transcripts.{entry_length, transcript_length};
+ghost use Rattle.replay.specs.Replays.{run_left, ran};
+ghost use Rattle.replay.specs.Walks.{step_length, IsStepped};
 
 use crate::steps::{HEAD, command_at, step_length};
 use crate::transcript::put_entry;
@@ -28,9 +28,9 @@ fn step(
     out: &mut [u8],
     to: usize,
 ) -> Stepped
-    requires { (n ≡ stepLength (drop at script.now)) × (0 < n) × (at + n ≤ length script.now)
-        × (to + entryLength (stepIn (drop at script.now)) ≤ length out.old) }
-    ensures { (m : Model) → IsStepped (runOf v.old s m) (stepIn (drop at script.now))
+    requires { (n ≡ step_length (drop at script.now)) × (0 < n) × (at + n ≤ length script.now)
+        × (to + entry_length (step_in (drop at script.now)) ≤ length out.old) }
+    ensures { (m : Model) → IsStepped (run_of v.old s m) (step_in (drop at script.now))
         v.new result.session out.old to out.new result.next }
 {
     let c = command_at(script, at);
@@ -48,9 +48,9 @@ fn step(
 
 // Performs all steps, in order.
 pub fn run_steps(v: &mut [u8], s: Session, script: &[u8], out: &mut [u8]) -> Session
-    requires { transcriptLength (steps script.now) ≤ length out.old }
+    requires { transcript_length (steps script.now) ≤ length out.old }
     ensures { (m : Model) → (record { answer = ran; session = result; volume = v.new; out = out.new })
-        ≡ runLeft (runOf v.old s m) script.now out.old }
+        ≡ run_left (run_of v.old s m) script.now out.old }
 {
     let mut last = s;
     let mut to = 0;

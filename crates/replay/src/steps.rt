@@ -1,8 +1,8 @@
 // The steps of a script: where each ends, its command, and whether the transcript of all of them has room.
 ghost use Rattle.std.specs.Prelude.{◌≡◌, not, ◌+◌, ◌≤◌, eqb, length, drop};
-ghost use Rattle.replay.specs.Scripts.{actionOf, commandIn};
-ghost use Rattle.replay.specs.Replays.{hasRoom};
-ghost use Rattle.replay.specs.Walks.{stepLength, actionLength};
+ghost use Rattle.replay.specs.Scripts.{action_of, command_in};
+ghost use Rattle.replay.specs.Replays.{has_room};
+ghost use Rattle.replay.specs.Walks.{step_length, action_length};
 
 use commands::{Action, Command};
 use sector::wide;
@@ -13,7 +13,7 @@ pub const HEAD: usize = 8;
 // The length of the step that begins at `at`, with its data; 0 if no whole one begins there.
 pub fn step_length(script: &[u8], at: usize) -> usize
     requires { at ≤ length script.now }
-    ensures { (result ≡ stepLength (drop at script.now)) × (at + result ≤ length script.now) }
+    ensures { (result ≡ step_length (drop at script.now)) × (at + result ≤ length script.now) }
 {
     let left = script.len() - at;
     if left < HEAD {
@@ -28,7 +28,7 @@ pub fn step_length(script: &[u8], at: usize) -> usize
 
 // Which call a step is.
 fn action(n: u8) -> Action
-    ensures { result ≡ actionOf n }
+    ensures { result ≡ action_of n }
 {
     match n {
         0 => Action::Begin,
@@ -52,7 +52,7 @@ fn is_crash(n: u8) -> bool
 // The command of the step that begins at `at`.
 pub fn command_at(script: &[u8], at: usize) -> Command
     requires { at + 8 ≤ length script.now }
-    ensures { result ≡ commandIn (drop at script.now) }
+    ensures { result ≡ command_in (drop at script.now) }
 {
     Command {
         action: action(script[at]),
@@ -66,7 +66,7 @@ pub fn command_at(script: &[u8], at: usize) -> Command
 
 // The length of the entry of a command that is this call.
 fn entry_length(a: Action) -> usize
-    ensures { result ≡ actionLength a }
+    ensures { result ≡ action_length a }
 {
     match a {
         Action::Begin => 12,
@@ -82,7 +82,7 @@ fn entry_length(a: Action) -> usize
 
 // Whether the transcript of the script fits into `room` bytes.
 pub fn has_room(script: &[u8], room: usize) -> bool
-    ensures { result ≡ hasRoom script.now room }
+    ensures { result ≡ has_room script.now room }
 {
     let mut left = room;
     let mut at = 0;

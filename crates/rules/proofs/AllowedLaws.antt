@@ -12,27 +12,27 @@ use lib.ListN.{length}
 use Rattle.interface.specs.declared.Session.{Session}
 use Rattle.lists.specs.Lists.{first, every}
 use Rattle.sector.specs.Contents.{Bytes, Entry}
-use Rattle.sector.specs.Entries.{forFile}
-use Rattle.lists.proofs.ListLaws.{and-left, and-right, and-both, or-right, or-none, no-both, all-nil, all-cons, all-at, every-from, every-all}
-use Rattle.lists.proofs.CaseLaws.{by-test, by-equal, if-test}
-use Rattle.lists.proofs.SearchLaws.{or-true, every-implies, first-none}
-use Rattle.volume.specs.Places.{isClient, isFile, fileAt}
+use Rattle.sector.specs.Entries.{for_file}
+use Rattle.lists.proofs.ListLaws.{and_left, and_right, and_both, or_right, or_none, no_both, all_nil, all_cons, all_at, every_from, every_all}
+use Rattle.lists.proofs.CaseLaws.{by_test, by_equal, if_test}
+use Rattle.lists.proofs.SearchLaws.{or_true, every_implies, first_none}
+use Rattle.volume.specs.Places.{is_client, is_file, file_at}
 use Rattle.volume.specs.Views.{View}
 use Rattle.volume.specs.Lawful.{lawful}
-use Rattle.volume.proofs.PlaceLaws.{IsFile, client-of, file-of}
-use Rattle.volume.proofs.LawfulLaws.{RecordFacts, HeaderFacts, Lawful, lawful-facts, record-facts, entry-facts}
-use Rattle.rules.specs.Sessions.{holds, holdsEither, isActive, isReading, isReadByOther, markFits, holdFits, marksFit, clientHoldsFit, holdsFit, sessionFits}
-use Rattle.rules.specs.Recovery.{isDecided}
-use Rattle.rules.specs.Plans.{Call, begin, openFile, openRead, write, commit, abort, Query, readPage, lookPage, entryFor, slotFor, freeSlots, heldByOrphan}
-use Rattle.rules.specs.Refusals.{heldByOther, isNewPage, pageMissing, readOnly, tests, queryTests}
-use Rattle.rules.proofs.ContentLaws.{map-below}
+use Rattle.volume.proofs.PlaceLaws.{IsFile, client_of, file_of}
+use Rattle.volume.proofs.LawfulLaws.{RecordFacts, HeaderFacts, Lawful, lawful_facts, record_facts, entry_facts}
+use Rattle.rules.specs.Sessions.{holds, holds_either, is_active, is_reading, is_read_by_other, mark_fits, hold_fits, marks_fit, client_holds_fit, holds_fit, session_fits}
+use Rattle.rules.specs.Recovery.{is_decided}
+use Rattle.rules.specs.Plans.{Call, begin, open_file, open_read, write, commit, abort, Query, read_page, look_page, entry_for, slot_for, free_slots, held_by_orphan}
+use Rattle.rules.specs.Refusals.{held_by_other, is_new_page, page_missing, read_only, tests, query_tests}
+use Rattle.rules.proofs.ContentLaws.{map_below}
 
 -- ------------------------------------------------------------------ sessions
 -- Client j is marked.
 pub record Active (s : Session) (j : ℕ) : Type 0 where
   pub low : 1 ≤ j
   pub high : j ≤ 4
-  pub on : isActive s j ≡ true
+  pub on : is_active s j ≡ true
 
 -- Another client than k is marked. No client is 0, so with that for k it is any.
 pub record Others (s : Session) (k j : ℕ) : Type 0 where
@@ -46,16 +46,16 @@ pub record Running (a : View) (j : ℕ) : Type 0 where
   pub mine : every (λ e. eqb (a.headers e.file).holder j) (a.records j).entries ≡ true
 
 -- It isn't decided, and has no entry for a file that it doesn't hold.
-pub running-undecided : {a : View} {j : ℕ} → Running a j → isDecided a j ≡ false
-running-undecided r = rw r.state
+pub running_undecided : {a : View} {j : ℕ} → Running a j → is_decided a j ≡ false
+running_undecided r = rw r.state
 
-pub running-foreign : {a : View} {j : ℕ} → Running a j → (f : ℕ) → (a.headers f).holder ≢ j
-    → (t : Entry → Bool) → every (λ e. not (forFile f e && t e)) (a.records j).entries ≡ true
-running-foreign {a} {j} r f n t =
-    every-implies (λ e. eqb (a.headers e.file).holder j) (λ e. not (forFile f e && t e))
+pub running_foreign : {a : View} {j : ℕ} → Running a j → (f : ℕ) → (a.headers f).holder ≢ j
+    → (t : Entry → Bool) → every (λ e. not (for_file f e && t e)) (a.records j).entries ≡ true
+running_foreign {a} {j} r f n t =
+    every_implies (λ e. eqb (a.headers e.file).holder j) (λ e. not (for_file f e && t e))
     (λ e x.
     let held : (a.headers e.file).holder ≡ j = eqb-true _ _ x in
-    by-equal e.file f (λ y. absurd (n (rw y at held))) (λ y. rw (ne_eqb e.file f y)))
+    by_equal e.file f (λ y. absurd (n (rw y at held))) (λ y. rw (ne_eqb e.file f y)))
     (a.records j).entries r.mine
 
 -- ------------------------------------------------------------------ reading holds
@@ -65,11 +65,11 @@ pub record Reader (s : Session) (j f : ℕ) : Type 0 where
   pub high : j ≤ 4
   pub first : 1 ≤ f
   pub last : f ≤ 16
-  pub on : isReading s j f ≡ true
+  pub on : is_reading s j f ≡ true
 
 -- What its hold relies on: it is active, and the file is there and has no holder.
 pub record Shared (a : View) (s : Session) (j f : ℕ) : Type 0 where
-  pub active : isActive s j ≡ true
+  pub active : is_active s j ≡ true
   pub file : f ≤ length a.table.files
   pub free : (a.headers f).holder ≡ 0
 
@@ -79,41 +79,41 @@ pub record Ready (a : View) (s : Session) : Type 0 where
   pub runs : (j : ℕ) → Active s j → Running a j
   pub reads : (j f : ℕ) → Reader s j f → Shared a s j f
 
-pub ready : (a : View) (s : Session) → lawful a ≡ true → sessionFits a s ≡ true → Ready a s
-unfolding sessionFits markFits clientHoldsFit holdFits
+pub ready : (a : View) (s : Session) → lawful a ≡ true → session_fits a s ≡ true → Ready a s
+unfolding session_fits mark_fits client_holds_fit hold_fits
 ready a s l fits = record {
-  laws = lawful-facts a l;
+  laws = lawful_facts a l;
   runs = λ j w.
-      let e : markFits a j ≡ true = or-right (not (isActive s j)) (markFits a j)
-      (every-from (λ k. not (isActive s k) || markFits a k) 4 1 (and-left (marksFit a s) _ fits) j w.low (omega (arith, w.high))) (rw w.on) in
-      record { client = leb-true _ _ (all-at _ 0 e); state = eqb-true _ _ (all-at _ 1 e); mine = all-at _ 2 e };
+      let e : mark_fits a j ≡ true = or_right (not (is_active s j)) (mark_fits a j)
+      (every_from (λ k. not (is_active s k) || mark_fits a k) 4 1 (and_left (marks_fit a s) _ fits) j w.low (omega (arith, w.high))) (rw w.on) in
+      record { client = leb-true _ _ (all_at _ 0 e); state = eqb-true _ _ (all_at _ 1 e); mine = all_at _ 2 e };
   reads = λ j f x.
-      let e : holdFits a s j f ≡ true = or-right (not (isReading s j f)) (holdFits a s j f)
-      (every-from (λ g. not (isReading s j g) || holdFits a s j g) 16 1
-      (every-from (clientHoldsFit a s) 4 1 (and-right (marksFit a s) _ fits) j x.low (omega (arith, x.high))) f x.first (omega (arith, x.last)))
+      let e : hold_fits a s j f ≡ true = or_right (not (is_reading s j f)) (hold_fits a s j f)
+      (every_from (λ g. not (is_reading s j g) || hold_fits a s j g) 16 1
+      (every_from (client_holds_fit a s) 4 1 (and_right (marks_fit a s) _ fits) j x.low (omega (arith, x.high))) f x.first (omega (arith, x.last)))
       (rw x.on) in
-      record { active = all-at _ 0 e; file = leb-true _ _ (all-at _ 1 e); free = eqb-true _ _ (all-at _ 2 e) };
+      record { active = all_at _ 0 e; file = leb-true _ _ (all_at _ 1 e); free = eqb-true _ _ (all_at _ 2 e) };
 }
 
 -- A session fits whose marked clients have a transaction running, and whose reading holds have what they rely on.
-pub running-fits : (a : View) (s : Session) → ((j : ℕ) → Active s j → Running a j) → ((j f : ℕ) → Reader s j f → Shared a s j f)
-    → sessionFits a s ≡ true
-unfolding sessionFits markFits clientHoldsFit holdFits
-running-fits a s runs reads = and-both (marksFit a s) (holdsFit a s)
-    (every-all _ 4 1
-    (λ j lo hi. by-test (isActive s j)
+pub running_fits : (a : View) (s : Session) → ((j : ℕ) → Active s j → Running a j) → ((j f : ℕ) → Reader s j f → Shared a s j f)
+    → session_fits a s ≡ true
+unfolding session_fits mark_fits client_holds_fit hold_fits
+running_fits a s runs reads = and_both (marks_fit a s) (holds_fit a s)
+    (every_all _ 4 1
+    (λ j lo hi. by_test (is_active s j)
     (λ on.
     let r : Running a j = runs j (record { low = lo; high = omega arith; on = on }) in
-    or-true (not (isActive s j)) (markFits a j)
-    (all-cons _ (le-leb _ _ r.client) (all-cons _ (eq-eqb _ _ r.state) (all-cons _ r.mine all-nil))))
+    or_true (not (is_active s j)) (mark_fits a j)
+    (all_cons _ (le-leb _ _ r.client) (all_cons _ (eq-eqb _ _ r.state) (all_cons _ r.mine all_nil))))
     (λ off. rw off)))
-    (every-all _ 4 1
-    (λ j lo hi. every-all _ 16 1
-    (λ f first last. by-test (isReading s j f)
+    (every_all _ 4 1
+    (λ j lo hi. every_all _ 16 1
+    (λ f first last. by_test (is_reading s j f)
     (λ on.
     let r : Shared a s j f = reads j f (record { low = lo; high = omega arith; first = first; last = omega arith; on = on }) in
-    or-true (not (isReading s j f)) (holdFits a s j f)
-    (all-cons _ r.active (all-cons _ (le-leb _ _ r.file) (all-cons _ (eq-eqb _ _ r.free) all-nil))))
+    or_true (not (is_reading s j f)) (hold_fits a s j f)
+    (all_cons _ r.active (all_cons _ (le-leb _ _ r.file) (all_cons _ (eq-eqb _ _ r.free) all_nil))))
     (λ off. rw off))))
 
 -- ------------------------------------------------------------------ each call
@@ -122,7 +122,7 @@ pub record MayBegin (a : View) (s : Session) (k : ℕ) : Type 0 where
   pub ready : Ready a s
   pub low : 1 ≤ k
   pub high : k ≤ a.table.clients
-  pub off : isActive s k ≡ false
+  pub off : is_active s k ≡ false
 
 -- Commit and abort: what every call of an active client has.
 pub record MayAct (a : View) (s : Session) (k : ℕ) : Type 0 where
@@ -134,29 +134,29 @@ pub record MayAct (a : View) (s : Session) (k : ℕ) : Type 0 where
 pub record MayOpenRead (a : View) (s : Session) (k f : ℕ) : Type 0 where
   pub act : MayAct a s k
   pub file : IsFile a.table f
-  pub free : heldByOther a s k f ≡ false
+  pub free : held_by_other a s k f ≡ false
 
 pub record MayOpen (a : View) (s : Session) (k f : ℕ) : Type 0 where
   pub either : MayOpenRead a s k f
-  pub unread : isReadByOther s k f ≡ false
+  pub unread : is_read_by_other s k f ≡ false
 
 pub record MayRead (a : View) (s : Session) (k f p : ℕ) : Type 0 where
   pub act : MayAct a s k
   pub file : IsFile a.table f
-  pub hold : holdsEither a s k f ≡ true
-  pub page : p < (fileAt a.table f).pages
+  pub hold : holds_either a s k f ≡ true
+  pub page : p < (file_at a.table f).pages
 
 pub record MayWrite (a : View) (s : Session) (k f p : ℕ) (d : Bytes) : Type 0 where
   pub place : MayRead a s k f p
   pub holder : (a.headers f).holder ≡ k
   pub size : length d ≡ 256
-  pub room : (isNewPage a k f p && eqb (length (freeSlots a k f)) 0) ≡ false
-  pub few : (isNewPage a k f p && eqb (length (a.records k).entries) 62) ≡ false
+  pub room : (is_new_page a k f p && eqb (length (free_slots a k f)) 0) ≡ false
+  pub few : (is_new_page a k f p && eqb (length (a.records k).entries) 62) ≡ false
 
 abbrev pub Allowed : View → Session → Call → Type 0
 Allowed a s (begin k) = MayBegin a s k
-Allowed a s (openFile k f) = MayOpen a s k f
-Allowed a s (openRead k f) = MayOpenRead a s k f
+Allowed a s (open_file k f) = MayOpen a s k f
+Allowed a s (open_read k f) = MayOpenRead a s k f
 Allowed a s (write k f p d) = MayWrite a s k f p d
 Allowed a s (commit k) = MayAct a s k
 Allowed a s (abort k) = MayAct a s k
@@ -165,40 +165,40 @@ Allowed a s (abort k) = MayAct a s k
 pub record MayLook (a : View) (f p : ℕ) : Type 0 where
   pub laws : Lawful a.table a
   pub file : IsFile a.table f
-  pub page : p < (fileAt a.table f).pages
+  pub page : p < (file_at a.table f).pages
 
 abbrev pub Answerable : View → Session → Query → Type 0
-Answerable a s (readPage k f p) = MayRead a s k f p
-Answerable a s (lookPage f p) = MayLook a f p
+Answerable a s (read_page k f p) = MayRead a s k f p
+Answerable a s (look_page f p) = MayLook a f p
 
 -- The record of an active client.
-pub own-record : {a : View} {s : Session} {k : ℕ} → MayAct a s k → RecordFacts a.table (a.records k)
-own-record {k = k} w = record-facts (w.ready.laws.records k w.active.low w.running.client)
+pub own_record : {a : View} {s : Session} {k : ℕ} → MayAct a s k → RecordFacts a.table (a.records k)
+own_record {k = k} w = record_facts (w.ready.laws.records k w.active.low w.running.client)
 
 -- A client that may read a file which it doesn't hold for writing holds it for reading.
-pub read-holder : {a : View} {s : Session} {k f p : ℕ} → MayRead a s k f p → holds a k f ≡ false → Reader s k f
-read-holder {a} {s} {k} {f} w e = record {
+pub read_holder : {a : View} {s : Session} {k f p : ℕ} → MayRead a s k f p → holds a k f ≡ false → Reader s k f
+read_holder {a} {s} {k} {f} w e = record {
   low = w.act.active.low;
   high = w.act.active.high;
   first = w.file.low;
   last = omega (arith, w.file.high, w.act.ready.laws.table.files.1);
-  on = or-right (holds a k f) (isReading s k f) w.hold e;
+  on = or_right (holds a k f) (is_reading s k f) w.hold e;
 }
 
 -- The slot that a read finds is one of the file's: given by an entry that fits, or by the map.
-pub slot-below : {a : View} {s : Session} {k f p : ℕ} → MayRead a s k f p → (o : Option Entry) → entryFor a k f p ≡ o
-    → slotFor a f p o < (fileAt a.table f).slots
-slot-below {f = f} {p = p} w none e = map-below (w.act.ready.laws.headers f w.file).map p w.page
-slot-below {f = f} {p = p} w (some x) e = (entry-facts (own-record w.act) f p x e).slot
+pub slot_below : {a : View} {s : Session} {k f p : ℕ} → MayRead a s k f p → (o : Option Entry) → entry_for a k f p ≡ o
+    → slot_for a f p o < (file_at a.table f).slots
+slot_below {f = f} {p = p} w none e = map_below (w.act.ready.laws.headers f w.file).map p w.page
+slot_below {f = f} {p = p} w (some x) e = (entry_facts (own_record w.act) f p x e).slot
 
 -- Where open isn't refused, a holder other than k is orphaned, unless there is none: one that is active is refused by 7, one
 -- whose record is idle by 1.
-pub holder-orphaned : (a : View) (s : Session) (k f : ℕ) → HeaderFacts a.table a.records f (a.headers f)
-    → heldByOther a s k f ≡ false → (a.headers f).holder ≢ k → heldByOrphan a s f ≡ not (eqb (a.headers f).holder 0)
-holder-orphaned a s k f facts free n = by-equal (a.headers f).holder 0
+pub holder_orphaned : (a : View) (s : Session) (k f : ℕ) → HeaderFacts a.table a.records f (a.headers f)
+    → held_by_other a s k f ≡ false → (a.headers f).holder ≢ k → held_by_orphan a s f ≡ not (eqb (a.headers f).holder 0)
+holder_orphaned a s k f facts free n = by_equal (a.headers f).holder 0
     (λ e. rw (eq-eqb _ 0 e))
     (λ z.
-    let off : isActive s (a.headers f).holder ≡ false = rw (ne_eqb _ 0 z, ne_eqb _ k n) at free in
+    let off : is_active s (a.headers f).holder ≡ false = rw (ne_eqb _ 0 z, ne_eqb _ k n) at free in
     rw (ne_eqb _ 0 z, off, (facts.holder z).live))
 
 -- ------------------------------------------------------------------ the order of the tests
@@ -213,87 +213,87 @@ pub record Ordered (ok fits : Bool) (xs : List (ℕ × Bool)) : Type 0 where
   is : xs ≡ (1, not ok) ∷ rest
   later : fits ≡ true → Later (first rest)
 
-first-later : (xs : List (ℕ × Bool)) → every (λ x. leb 3 x.0) xs ≡ true → Later (first xs)
+first_later : (xs : List (ℕ × Bool)) → every (λ x. leb 3 x.0) xs ≡ true → Later (first xs)
 unfolding first
-first-later [] e = (omega arith, omega arith)
-first-later (x ∷ xs) e =
-    let three : 3 ≤ x.0 = leb-true _ _ (and-left (leb 3 x.0) _ e) in
-    if-test Later x.1 x.0 (first xs) (λ t. (omega arith, omega arith)) (λ t. first-later xs (and-right (leb 3 x.0) _ e))
+first_later [] e = (omega arith, omega arith)
+first_later (x ∷ xs) e =
+    let three : 3 ≤ x.0 = leb-true _ _ (and_left (leb 3 x.0) _ e) in
+    if_test Later x.1 x.0 (first xs) (λ t. (omega arith, omega arith)) (λ t. first_later xs (and_right (leb 3 x.0) _ e))
 
 -- The second test is 2.
-second-later : (fits : Bool) (xs : List (ℕ × Bool)) → every (λ x. leb 3 x.0) xs ≡ true → fits ≡ true → Later (first ((2, not fits) ∷ xs))
+second_later : (fits : Bool) (xs : List (ℕ × Bool)) → every (λ x. leb 3 x.0) xs ≡ true → fits ≡ true → Later (first ((2, not fits) ∷ xs))
 unfolding first
-second-later fits xs high e = rw e (first-later xs high)
+second_later fits xs high e = rw e (first_later xs high)
 
 module _ {ok fits : Bool} {xs : List (ℕ × Bool)} (h : Ordered ok fits xs) where
-  pub passed-first : first xs ≡ 0 → ok ≡ true
+  pub passed_first : first xs ≡ 0 → ok ≡ true
   unfolding first
-  passed-first e = by-test ok (λ t. t) (λ n. absurd (omega (arith, rw (h.is, n) at e)))
+  passed_first e = by_test ok (λ t. t) (λ n. absurd (omega (arith, rw (h.is, n) at e)))
 
-  pub passed-both : ok ≡ true → fits ≡ true → Later (first xs)
+  pub passed_both : ok ≡ true → fits ≡ true → Later (first xs)
   unfolding first
-  passed-both e q = rw (h.is, e) (h.later q)
+  passed_both e q = rw (h.is, e) (h.later q)
 
 module _ (ok : Bool) (a : View) (s : Session) where
-  second-tests : {xs : List (ℕ × Bool)} (rest : List (ℕ × Bool)) → xs ≡ (1, not ok) ∷ (2, not (sessionFits a s)) ∷ rest
-      → every (λ x. leb 3 x.0) rest ≡ true → Ordered ok (sessionFits a s) xs
-  second-tests rest is high = record { rest = _; is = is; later = second-later (sessionFits a s) rest high }
+  second_tests : {xs : List (ℕ × Bool)} (rest : List (ℕ × Bool)) → xs ≡ (1, not ok) ∷ (2, not (session_fits a s)) ∷ rest
+      → every (λ x. leb 3 x.0) rest ≡ true → Ordered ok (session_fits a s) xs
+  second_tests rest is high = record { rest = _; is = is; later = second_later (session_fits a s) rest high }
 
-  pub ordered : (c : Call) → Ordered ok (sessionFits a s) (tests ok a s c)
+  pub ordered : (c : Call) → Ordered ok (session_fits a s) (tests ok a s c)
   unfolding tests
-  ordered (begin k) = second-tests _ refl refl
-  ordered (openFile k f) = second-tests _ refl refl
-  ordered (openRead k f) = second-tests _ refl refl
-  ordered (write k f p d) = second-tests _ refl refl
-  ordered (commit k) = second-tests _ refl refl
-  ordered (abort k) = second-tests _ refl refl
+  ordered (begin k) = second_tests _ refl refl
+  ordered (open_file k f) = second_tests _ refl refl
+  ordered (open_read k f) = second_tests _ refl refl
+  ordered (write k f p d) = second_tests _ refl refl
+  ordered (commit k) = second_tests _ refl refl
+  ordered (abort k) = second_tests _ refl refl
 
-  pub query-ordered : (q : Query) → Ordered ok (sessionFits a s) (queryTests ok a s q)
-  unfolding queryTests
-  query-ordered (readPage k f p) = second-tests _ refl refl
-  query-ordered (lookPage f p) = record { rest = _; is = refl; later = λ e. first-later _ refl }
+  pub query_ordered : (q : Query) → Ordered ok (session_fits a s) (query_tests ok a s q)
+  unfolding query_tests
+  query_ordered (read_page k f p) = second_tests _ refl refl
+  query_ordered (look_page f p) = record { rest = _; is = refl; later = λ e. first_later _ refl }
 
 -- ------------------------------------------------------------------ from the tests
 module _ (ok : Bool) (a : View) (s : Session) (law : ok ≡ true → lawful a ≡ true) where
-  is-ready : not ok ≡ false → not (sessionFits a s) ≡ false → Ready a s
-  is-ready e q = ready a s (law (not-false _ e)) (not-false _ q)
+  is_ready : not ok ≡ false → not (session_fits a s) ≡ false → Ready a s
+  is_ready e q = ready a s (law (not-false _ e)) (not-false _ q)
 
-  acting : (k : ℕ) → Ready a s → not (isClient a.table k) ≡ false → not (isActive s k) ≡ false → MayAct a s k
+  acting : (k : ℕ) → Ready a s → not (is_client a.table k) ≡ false → not (is_active s k) ≡ false → MayAct a s k
   acting k r e q =
-      let i = client-of a.table k (not-false _ e) in
+      let i = client_of a.table k (not-false _ e) in
       let w : Active s k = record { low = i.0; high = omega (arith, r.laws.table.four, i.1); on = not-false _ q } in
       record { ready = r; active = w; running = r.runs k w }
 
-  opening : (k f : ℕ) → MayAct a s k → not (isFile a.table f) ≡ false → heldByOther a s k f ≡ false → MayOpenRead a s k f
-  opening k f w file free = record { act = w; file = file-of a.table f (not-false _ file); free = free }
+  opening : (k f : ℕ) → MayAct a s k → not (is_file a.table f) ≡ false → held_by_other a s k f ≡ false → MayOpenRead a s k f
+  opening k f w file free = record { act = w; file = file_of a.table f (not-false _ file); free = free }
 
-  reading : (k f p : ℕ) → MayAct a s k → not (isFile a.table f) ≡ false → not (holdsEither a s k f) ≡ false
-      → (pageMissing a f p).1 ≡ false → MayRead a s k f p
+  reading : (k f p : ℕ) → MayAct a s k → not (is_file a.table f) ≡ false → not (holds_either a s k f) ≡ false
+      → (page_missing a f p).1 ≡ false → MayRead a s k f p
   reading k f p w file hold page = record {
     act = w;
-    file = file-of a.table f (not-false _ file);
+    file = file_of a.table f (not-false _ file);
     hold = not-false _ hold;
     page = ltb-true _ _ (not-false _ page);
   }
 
   -- A file that is held, and not for reading only, is held for writing.
-  writing : (k f : ℕ) → not (holdsEither a s k f) ≡ false → (readOnly a s k f).1 ≡ false → (a.headers f).holder ≡ k
-  writing k f hold only = by-test (holds a k f) (λ e. eqb-true _ _ e)
+  writing : (k f : ℕ) → not (holds_either a s k f) ≡ false → (read_only a s k f).1 ≡ false → (a.headers f).holder ≡ k
+  writing k f hold only = by_test (holds a k f) (λ e. eqb-true _ _ e)
       (λ e.
-      let read : isReading s k f ≡ true = or-right (holds a k f) (isReading s k f) (not-false _ hold) e in
-      no-both true refl (rw (read, e) at only))
+      let read : is_reading s k f ≡ true = or_right (holds a k f) (is_reading s k f) (not-false _ hold) e in
+      no_both true refl (rw (read, e) at only))
 
   -- A question that isn't refused.
-  pub answerable : (q : Query) → first (queryTests ok a s q) ≡ 0 → Answerable a s q
-  unfolding queryTests
-  answerable (readPage k f p) e =
-      let no = first-none (queryTests ok a s (readPage k f p)) in
-      reading k f p (acting k (is-ready (no 0 refl e) (no 1 refl e)) (no 2 refl e) (no 3 refl e)) (no 4 refl e) (no 5 refl e) (no 6 refl e)
-  answerable (lookPage f p) e =
-      let no = first-none (queryTests ok a s (lookPage f p)) in
+  pub answerable : (q : Query) → first (query_tests ok a s q) ≡ 0 → Answerable a s q
+  unfolding query_tests
+  answerable (read_page k f p) e =
+      let no = first_none (query_tests ok a s (read_page k f p)) in
+      reading k f p (acting k (is_ready (no 0 refl e) (no 1 refl e)) (no 2 refl e) (no 3 refl e)) (no 4 refl e) (no 5 refl e) (no 6 refl e)
+  answerable (look_page f p) e =
+      let no = first_none (query_tests ok a s (look_page f p)) in
       record {
-        laws = lawful-facts a (law (not-false _ (no 0 refl e)));
-        file = file-of a.table f (not-false _ (no 1 refl e));
+        laws = lawful_facts a (law (not-false _ (no 0 refl e)));
+        file = file_of a.table f (not-false _ (no 1 refl e));
         page = ltb-true _ _ (not-false _ (no 2 refl e));
       }
 
@@ -301,27 +301,27 @@ module _ (ok : Bool) (a : View) (s : Session) (law : ok ≡ true → lawful a �
   acts : (k : ℕ) → first (tests ok a s (commit k)) ≡ 0 → MayAct a s k
   unfolding tests
   acts k e =
-      let no = first-none (tests ok a s (commit k)) in
-      acting k (is-ready (no 0 refl e) (no 1 refl e)) (no 2 refl e) (no 3 refl e)
+      let no = first_none (tests ok a s (commit k)) in
+      acting k (is_ready (no 0 refl e) (no 1 refl e)) (no 2 refl e) (no 3 refl e)
 
   pub allowed : (c : Call) → first (tests ok a s c) ≡ 0 → Allowed a s c
   unfolding tests
   allowed (begin k) e =
-      let no = first-none (tests ok a s (begin k)) in
-      let i = client-of a.table k (not-false _ (no 2 refl e)) in
-      record { ready = is-ready (no 0 refl e) (no 1 refl e); low = i.0; high = i.1; off = no 3 refl e }
-  allowed (openFile k f) e =
-      let no = first-none (tests ok a s (openFile k f)) in
-      let free = or-none (heldByOther a s k f) (isReadByOther s k f) (no 5 refl e) in
-      let act = acting k (is-ready (no 0 refl e) (no 1 refl e)) (no 2 refl e) (no 3 refl e) in
+      let no = first_none (tests ok a s (begin k)) in
+      let i = client_of a.table k (not-false _ (no 2 refl e)) in
+      record { ready = is_ready (no 0 refl e) (no 1 refl e); low = i.0; high = i.1; off = no 3 refl e }
+  allowed (open_file k f) e =
+      let no = first_none (tests ok a s (open_file k f)) in
+      let free = or_none (held_by_other a s k f) (is_read_by_other s k f) (no 5 refl e) in
+      let act = acting k (is_ready (no 0 refl e) (no 1 refl e)) (no 2 refl e) (no 3 refl e) in
       record { either = opening k f act (no 4 refl e) free.0; unread = free.1 }
-  allowed (openRead k f) e =
-      let no = first-none (tests ok a s (openRead k f)) in
-      opening k f (acting k (is-ready (no 0 refl e) (no 1 refl e)) (no 2 refl e) (no 3 refl e)) (no 4 refl e) (no 5 refl e)
+  allowed (open_read k f) e =
+      let no = first_none (tests ok a s (open_read k f)) in
+      opening k f (acting k (is_ready (no 0 refl e) (no 1 refl e)) (no 2 refl e) (no 3 refl e)) (no 4 refl e) (no 5 refl e)
   allowed (write k f p d) e =
-      let no = first-none (tests ok a s (write k f p d)) in
+      let no = first_none (tests ok a s (write k f p d)) in
       record {
-        place = reading k f p (acting k (is-ready (no 0 refl e) (no 1 refl e)) (no 2 refl e) (no 3 refl e))
+        place = reading k f p (acting k (is_ready (no 0 refl e) (no 1 refl e)) (no 2 refl e) (no 3 refl e))
             (no 4 refl e) (no 5 refl e) (no 7 refl e);
         holder = writing k f (no 5 refl e) (no 6 refl e);
         size = eqb-true _ _ (not-false _ (no 8 refl e));

@@ -6,8 +6,8 @@ use lib.Dec.{eqb}
 use Rattle.interface.specs.declared.Session.{Session}
 pub use Rattle.interface.proofs.AnswerExamples.{marks}
 use Rattle.lists.specs.Lists.{when◌then◌else◌}
-use Rattle.sector.specs.Contents.{Bytes, Table, Record, Header, idleRecord}
-use Rattle.volume.specs.Views.{View, noHeader}
+use Rattle.sector.specs.Contents.{Bytes, Table, Record, Header, idle_record}
+use Rattle.volume.specs.Views.{View, no_header}
 pub use Rattle.volume.proofs.PlaceExamples.{entry, rec, header}
 
 -- The session with these words of reading holds: bit 0 of the first is client 1's of file 1.
@@ -32,11 +32,11 @@ abbrev pub active12 : Session
 active12 = marks true true false false
 
 -- A view of two files, with their headers.
-abbrev pub viewOf : Table → (ℕ → Record) → Header → Header → (ℕ → ℕ → Bytes) → View
-viewOf t records h1 h2 slots = record {
+abbrev pub view_of : Table → (ℕ → Record) → Header → Header → (ℕ → ℕ → Bytes) → View
+view_of t records h1 h2 slots = record {
   table = t;
   records = records;
-  headers = λ f. when eqb f 1 then h1 else when eqb f 2 then h2 else noHeader;
+  headers = λ f. when eqb f 1 then h1 else when eqb f 2 then h2 else no_header;
   slots = slots;
 }
 
@@ -46,7 +46,7 @@ table = record { sectors = 20; clients = 4; files = record { pages = 3; slots = 
 
 -- Slot r of file f has the bytes f, r.
 abbrev pub seen : (ℕ → Record) → Header → Header → View
-seen records h1 h2 = viewOf table records h1 h2 (λ f r. f ∷ r ∷ [])
+seen records h1 h2 = view_of table records h1 h2 (λ f r. f ∷ r ∷ [])
 
 -- Client 1's transaction is in this state: it holds both files, page 1 of file 1 is in slot 4 and page 0 of file 2 in slot 2.
 -- Client 2's is decided, holds nothing, and gives slot 0 for page 0 and slot 3 for page 1 of file 1. Clients 3 and 4 are idle.
@@ -54,7 +54,7 @@ abbrev pub records : (state : ℕ) → ℕ → Record
 records state k =
     when eqb k 1 then rec state (entry 1 1 4 ∷ entry 2 0 2 ∷ [])
     else when eqb k 2 then rec 2 (entry 1 0 0 ∷ entry 1 1 3 ∷ [])
-    else idleRecord
+    else idle_record
 
 abbrev pub at : (state : ℕ) → View
 at state = seen (records state) (header 1 (1 ∷ 5 ∷ 2 ∷ [])) (header 1 (0 ∷ []))

@@ -7,12 +7,12 @@ use Rattle.lists.specs.Lists.{when◌then◌else◌, all, every, from}
 use Rattle.sector.specs.Contents.{Bytes}
 use Rattle.script.specs.declared.Kind.{Kind}
 use Rattle.script.specs.declared.Row.{Row}
-use Rattle.script.specs.Fields.{arguments, argument, hasWord}
+use Rattle.script.specs.Fields.{arguments, argument, has_word}
 
 -- The bytes of a text in ASCII.
-abbrev pub bytesOf : String → Bytes
-bytesOf []ˢ = []
-bytesOf (c ∷ˢ s) = code c ∷ bytesOf s
+abbrev pub bytes_of : String → Bytes
+bytes_of []ˢ = []
+bytes_of (c ∷ˢ s) = code c ∷ bytes_of s
 
 -- The list with as many of these behind it as make n elements.
 abbrev pub filled : {A : Type 0} → (n : ℕ) → A → List A → List A
@@ -27,7 +27,7 @@ limits x = x.4 ∷ x.5 ∷ x.6 ∷ x.7 ∷ x.8 ∷ []
 abbrev pub line : Kind → String → (limits : List ℕ) → (n : ℕ) → Row
 line k w ms n = record {
   0 = k;
-  1 = filled 10 0x20 (bytesOf w);
+  1 = filled 10 0x20 (bytes_of w);
   2 = length ms;
   3 = length ms + n;
   4 = get_or ms 0 255;
@@ -64,18 +64,18 @@ abbrev pub limit : Row → (i : ℕ) → ℕ
 limit x i = get_or (limits x) i 255
 
 -- The first n arguments are at most what they may be.
-abbrev pub argumentsFit : Row → Bytes → (n : ℕ) → Bool
-argumentsFit x l n = every (λ i. leb (argument (i + 1) l) (limit x i)) (from 0 n)
+abbrev pub arguments_fit : Row → Bytes → (n : ℕ) → Bool
+arguments_fit x l n = every (λ i. leb (argument (i + 1) l) (limit x i)) (from 0 n)
 
 -- The line is one of the row's: its word, its number of arguments and each of them.
 abbrev pub fits : Row → Bytes → Bool
-fits x l = all (hasWord x.1 l ∷ leb x.2 (arguments l) ∷ leb (arguments l) x.3 ∷ argumentsFit x l (arguments l) ∷ [])
+fits x l = all (has_word x.1 l ∷ leb x.2 (arguments l) ∷ leb (arguments l) x.3 ∷ arguments_fit x l (arguments l) ∷ [])
 
 -- What a line asks for, by the first of these rows that it fits.
-unfoldable pub kindIn : List Row → Bytes → Kind
-kindIn [] l = Kind.Unknown
-kindIn (x ∷ xs) l = when fits x l then x.0 else kindIn xs l
+unfoldable pub kind_in : List Row → Bytes → Kind
+kind_in [] l = Kind.Unknown
+kind_in (x ∷ xs) l = when fits x l then x.0 else kind_in xs l
 
 -- What a line asks for.
-abbrev pub kindOf : Bytes → Kind
-kindOf l = kindIn rows l
+abbrev pub kind_of : Bytes → Kind
+kind_of l = kind_in rows l

@@ -2,17 +2,17 @@
 use Rattle.std.specs.Prelude.{[], ◌∷◌, ℕ, ◌+◌, ◌/◌, ◌%◌, ltb, length}
 use Rattle.lists.specs.Lists.{when◌then◌else◌}
 use Rattle.sector.specs.Contents.{Bytes}
-use Rattle.text.specs.Writes.{ToPrint, textFirst, nothingFirst}
+use Rattle.text.specs.Writes.{ToPrint, text_first, nothing_first}
 
 -- A digit in ASCII.
-abbrev pub hexDigit : ℕ → ℕ
-hexDigit n = when ltb n 10 then 48 + n else 55 + n
+abbrev pub hex_digit : ℕ → ℕ
+hex_digit n = when ltb n 10 then 48 + n else 55 + n
 
 -- Two digits for each byte.
-unfoldable pub hexText : Bytes → Bytes
-hexText [] = []
-hexText (b ∷ l) = hexDigit (b / 16) ∷ hexDigit (b % 16) ∷ hexText l
+unfoldable pub hex_text : Bytes → Bytes
+hex_text [] = []
+hex_text (b ∷ l) = hex_digit (b / 16) ∷ hex_digit (b % 16) ∷ hex_text l
 
 -- The digits stand at the front; without room for them, nothing is written.
-unfoldable pub inHex : Bytes → Bytes → ToPrint
-inHex l out = when ltb (length out / 2) (length l) then nothingFirst out else textFirst (hexText l) out
+unfoldable pub in_hex : Bytes → Bytes → ToPrint
+in_hex l out = when ltb (length out / 2) (length l) then nothing_first out else text_first (hex_text l) out

@@ -1,6 +1,6 @@
 // The fields of a line: what is between its spaces. Field 0 is the word, field i is argument i.
 ghost use Rattle.std.specs.Prelude.{◌≡◌, ◌+◌, ◌*◌, ◌-◌, ◌≤◌, min, length, drop};
-ghost use Rattle.script.specs.Fields.{spaces, behindSpace, fromField, digitsFrom, front, hasWord};
+ghost use Rattle.script.specs.Fields.{spaces, behind_space, from_field, digits_from, front, has_word};
 ghost use Rattle.script.specs.Fields;
 
 const SPACE: u8 = 0x20;
@@ -33,7 +33,7 @@ pub fn arguments(line: &[u8]) -> usize
 // Where the field after the one at `at` begins; the end of the line if there is none.
 fn next_field(line: &[u8], at: usize) -> usize
     requires { at ≤ length line.now }
-    ensures { (drop result line.now ≡ behindSpace (drop at line.now)) × (result ≤ length line.now) }
+    ensures { (drop result line.now ≡ behind_space (drop at line.now)) × (result ≤ length line.now) }
 {
     let mut i = at;
     while i < line.len() {
@@ -47,7 +47,7 @@ fn next_field(line: &[u8], at: usize) -> usize
 
 // Where field n begins.
 fn field(line: &[u8], n: usize) -> usize
-    ensures { (drop result line.now ≡ fromField n line.now) × (result ≤ length line.now) }
+    ensures { (drop result line.now ≡ from_field n line.now) × (result ≤ length line.now) }
 {
     let mut at = 0;
     let mut i = 0;
@@ -73,7 +73,7 @@ fn with_digit(n: u32, c: u8) -> u32
 // The number that begins at `at`, up to the next space.
 fn digits(line: &[u8], at: usize) -> u32
     requires { at ≤ length line.now }
-    ensures { result ≡ digitsFrom 0 (drop at line.now) }
+    ensures { result ≡ digits_from 0 (drop at line.now) }
 {
     let mut n = 0;
     let mut i = at;
@@ -119,7 +119,7 @@ pub fn argument(line: &[u8], n: usize) -> u32
 // Whether the line's word is this one, up to its first space. Ruled out: `beginning 1` taken for `begin 1`
 // (`must-fail/prefix_is_the_word`).
 pub fn has_word(line: &[u8], word: &[u8]) -> bool
-    ensures { result ≡ hasWord word.now line.now }
+    ensures { result ≡ has_word word.now line.now }
 {
     let mut i = 0;
     while i < word.len() {

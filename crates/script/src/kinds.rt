@@ -1,6 +1,6 @@
 // What a line asks for, by its word and its arguments.
 ghost use Rattle.std.specs.Prelude.{◌≡◌, ◌∷◌, ◌+◌, ◌<◌, length, drop};
-ghost use Rattle.script.specs.Kinds.{rows, argumentsFit, kindOf};
+ghost use Rattle.script.specs.Kinds.{rows, arguments_fit, kind_of};
 ghost use Rattle.script.specs.Kinds;
 
 use crate::fields::{argument, arguments, has_word};
@@ -75,7 +75,7 @@ fn limit(x: Row, i: usize) -> u32
 
 // Whether the first n arguments are what they may be.
 fn arguments_fit(line: &[u8], x: Row, n: usize) -> bool
-    ensures { result ≡ argumentsFit x line.now n }
+    ensures { result ≡ arguments_fit x line.now n }
 {
     let mut i = 0;
     while i < n {
@@ -108,7 +108,7 @@ fn fits(line: &[u8], x: Row) -> bool
 
 // What a line asks for.
 pub fn kind(line: &[u8]) -> Kind
-    ensures { result ≡ kindOf line.now }
+    ensures { result ≡ kind_of line.now }
 {
     let mut i = 0;
     while i < ROWS.len() {

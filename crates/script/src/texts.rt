@@ -2,12 +2,12 @@
 // first.
 ghost use Rattle.std.specs.Prelude.{◌≡◌, ◌+◌, ◌*◌, ◌/◌, ◌%◌, ◌≤◌, ◌<◌, length, take};
 ghost use Rattle.std.proofs.lemmas.List.Edits.{sets};
-ghost use Rattle.script.specs.Texts.{hexDigit, hexText, inHex};
+ghost use Rattle.script.specs.Texts.{hex_digit, hex_text, in_hex};
 
 // A digit in ASCII.
 fn hex_digit(n: u8) -> u8
     requires { n < 16 }
-    ensures { result ≡ hexDigit n }
+    ensures { result ≡ hex_digit n }
 {
     if n < 10 {
         return 48 + n;
@@ -25,7 +25,7 @@ fn high(b: u8) -> u8
 // The digits of every byte are written to the front of `out`.
 fn put_hex(bytes: &[u8], out: &mut [u8])
     requires { 2 * length bytes.now ≤ length out.old }
-    ensures { out.new ≡ sets out.old 0 (hexText bytes.now) }
+    ensures { out.new ≡ sets out.old 0 (hex_text bytes.now) }
 {
     let mut i = 0;
     while i < bytes.len() {
@@ -38,7 +38,7 @@ fn put_hex(bytes: &[u8], out: &mut [u8])
 
 // Writes two digits for each byte to the front of `out`, and hands back how many; if they don't fit, writes nothing.
 pub fn hex(bytes: &[u8], out: &mut [u8]) -> usize
-    ensures out_after { (record { count = result; out = out.new }) ≡ inHex bytes.now out.old }
+    ensures out_after { (record { count = result; out = out.new }) ≡ in_hex bytes.now out.old }
     ensures upper_bound { (result ≤ length out.new) × (result ≡ length (take result out.new)) }
 {
     if out.len() / 2 < bytes.len() {

@@ -7,60 +7,60 @@ use native.Mathlib.Numerals.{add-one}
 use native.Mathlib.Omega.{arith}
 use lib.ListN.{length, drop, set}
 use Rattle.lists.specs.Lists.{from}
-use Rattle.sector.specs.Layout.{markByte, tableMark, headerMark, itemsOffset, itemsRoom, itemOffset, spareOffset, fileLimit}
-use Rattle.sector.specs.Contents.{Bytes, File, newHeader}
-use Rattle.sector.specs.Sectors.{wordBytes, zeroSector, padded}
-use Rattle.sector.specs.Encoding.{fileBytes, encodeTable, encodeHeader}
-use Rattle.lists.proofs.SearchLaws.{from-length}
-use Rattle.sector.proofs.CodecLaws.{files-length}
-use Rattle.sector.specs.Shapes.{filesOf, pairAt}
+use Rattle.sector.specs.Layout.{mark_byte, table_mark, header_mark, items_offset, items_room, item_offset, spare_offset, file_limit}
+use Rattle.sector.specs.Contents.{Bytes, File, new_header}
+use Rattle.sector.specs.Sectors.{word_bytes, zero_sector, padded}
+use Rattle.sector.specs.Encoding.{file_bytes, encode_table, encode_header}
+use Rattle.lists.proofs.SearchLaws.{from_length}
+use Rattle.sector.proofs.CodecLaws.{files_length}
+use Rattle.sector.specs.Shapes.{files_of, pair_at}
 use Rattle.sector.specs.Puts.{Puts}
-use Rattle.sector.proofs.PutsLaws.{puts-more, puts-byte}
-use Rattle.sector.proofs.ShapeLaws.{files-count, files-from}
+use Rattle.sector.proofs.PutsLaws.{puts_more, puts_byte}
+use Rattle.sector.proofs.ShapeLaws.{files_count, files_from_lem}
 
 -- ------------------------------------------------------------------ the table
 -- Four bytes.
-pub entry-put : (at x y z w : ℕ) (b : Bytes)
+pub entry_put : (at x y z w : ℕ) (b : Bytes)
     → Puts at (x ∷ y ∷ z ∷ w ∷ []) b (set (set (set (set b at x) (at + 1) y) (at + 2) z) (at + 3) w)
-entry-put at x y z w b =
-    puts-more at (at + 1) (x ∷ []) (y ∷ z ∷ w ∷ []) b _ _ refl (puts-byte at x b)
-    (puts-more (at + 1) (at + 2) (y ∷ []) (z ∷ w ∷ []) _ _ _ (omega arith) (puts-byte (at + 1) y _)
-    (puts-more (at + 2) (at + 3) (z ∷ []) (w ∷ []) _ _ _ (omega arith) (puts-byte (at + 2) z _) (puts-byte (at + 3) w _)))
+entry_put at x y z w b =
+    puts_more at (at + 1) (x ∷ []) (y ∷ z ∷ w ∷ []) b _ _ refl (puts_byte at x b)
+    (puts_more (at + 1) (at + 2) (y ∷ []) (z ∷ w ∷ []) _ _ _ (omega arith) (puts_byte (at + 1) y _)
+    (puts_more (at + 2) (at + 3) (z ∷ []) (w ∷ []) _ _ _ (omega arith) (puts_byte (at + 2) z _) (puts_byte (at + 3) w _)))
 
-pub entries-turn : (l : Bytes) (i h : ℕ) (b c : Bytes) → i < length l / 2
-    → Puts (itemOffset i) (wordBytes h ((pairAt l i).pages ∷ (pairAt l i).slots ∷ [])) b c
-    → (w : Bytes) → Puts (itemOffset (i + 1)) (fileBytes (h + 1 + (pairAt l i).slots) (drop (i + 1) (filesOf l))) c w
-    → Puts (itemOffset i) (fileBytes h (drop i (filesOf l))) b w
-unfolding fileBytes
-entries-turn l i h b c lt one w rest =
-    rw (files-from l i lt) (puts-more (itemOffset i) (itemOffset (i + 1)) _ _ b c w (omega arith) one rest)
+pub entries_turn : (l : Bytes) (i h : ℕ) (b c : Bytes) → i < length l / 2
+    → Puts (item_offset i) (word_bytes h ((pair_at l i).pages ∷ (pair_at l i).slots ∷ [])) b c
+    → (w : Bytes) → Puts (item_offset (i + 1)) (file_bytes (h + 1 + (pair_at l i).slots) (drop (i + 1) (files_of l))) c w
+    → Puts (item_offset i) (file_bytes h (drop i (files_of l))) b w
+unfolding file_bytes
+entries_turn l i h b c lt one w rest =
+    rw (files_from_lem l i lt) (puts_more (item_offset i) (item_offset (i + 1)) _ _ b c w (omega arith) one rest)
 
-pub table-built : (N T F : ℕ) (l w : Bytes) → F ≡ length (filesOf l) → length l ≤ 2 * fileLimit
-    → Puts itemsOffset (fileBytes (T + 1) (filesOf l)) (set (set (set (set (set (set zeroSector 0 markByte) 1 tableMark) 2 (N % 256)) 3 (N / 256)) 4 T) 5 F) w
-    → w ≡ encodeTable (record { sectors = N; clients = T; files = filesOf l })
-unfolding zeroSector Puts encodeTable padded
-table-built N T F l w e few x =
-    let d : Bytes = fileBytes (T + 1) (filesOf l) in
-    let head : Bytes = markByte ∷ tableMark ∷ N % 256 ∷ N / 256 ∷ T ∷ F ∷ 0 ∷ 0 ∷ [] in
+pub table_built : (N T F : ℕ) (l w : Bytes) → F ≡ length (files_of l) → length l ≤ 2 * file_limit
+    → Puts items_offset (file_bytes (T + 1) (files_of l)) (set (set (set (set (set (set zero_sector 0 mark_byte) 1 table_mark) 2 (N % 256)) 3 (N / 256)) 4 T) 5 F) w
+    → w ≡ encode_table (record { sectors = N; clients = T; files = files_of l })
+unfolding zero_sector Puts encode_table padded
+table_built N T F l w e few x =
+    let d : Bytes = file_bytes (T + 1) (files_of l) in
+    let head : Bytes = mark_byte ∷ table_mark ∷ N % 256 ∷ N / 256 ∷ T ∷ F ∷ 0 ∷ 0 ∷ [] in
     let n : ℕ = 256 - length (head ++ d) in
-    let all : length d + n ≡ 248 = omega (arith, files-length (T + 1) (filesOf l), files-count l) in
+    let all : length d + n ≡ 248 = omega (arith, files_length (T + 1) (files_of l), files_count l) in
     rw (← e) (x head n refl (rw all))
 
 -- ------------------------------------------------------------------ a header
-pub map-turn : (n p : ℕ) (b : Bytes) → p < n
-    → (w : Bytes) → Puts (itemsOffset + (p + 1)) (from (p + 1) (n - (p + 1))) (set b (itemsOffset + p) p) w → Puts (itemsOffset + p) (from p (n - p)) b w
-map-turn n p b lt w rest =
+pub map_turn : (n p : ℕ) (b : Bytes) → p < n
+    → (w : Bytes) → Puts (items_offset + (p + 1)) (from (p + 1) (n - (p + 1))) (set b (items_offset + p) p) w → Puts (items_offset + p) (from p (n - p)) b w
+map_turn n p b lt w rest =
     let m : n - p ≡ suc (n - (p + 1)) = omega arith in
-    rw (m, ← add-one p) (puts-more (itemsOffset + p) (itemsOffset + (p + 1)) (p ∷ []) _ b _ w (omega arith) (puts-byte (itemsOffset + p) p b) rest)
+    rw (m, ← add-one p) (puts_more (items_offset + p) (items_offset + (p + 1)) (p ∷ []) _ b _ w (omega arith) (puts_byte (items_offset + p) p b) rest)
 
-pub header-built : (x : File) (w : Bytes) → x.pages ≤ itemsRoom
-    → Puts itemsOffset (from 0 x.pages) (set (set (set zeroSector 0 markByte) 1 headerMark) spareOffset (x.slots - x.pages)) w
-    → w ≡ encodeHeader x (newHeader x)
-unfolding zeroSector Puts encodeHeader padded
-header-built x w le put =
+pub header_built : (x : File) (w : Bytes) → x.pages ≤ items_room
+    → Puts items_offset (from 0 x.pages) (set (set (set zero_sector 0 mark_byte) 1 header_mark) spare_offset (x.slots - x.pages)) w
+    → w ≡ encode_header x (new_header x)
+unfolding zero_sector Puts encode_header padded
+header_built x w le put =
     let n : ℕ = x.pages in
-    let head : Bytes = markByte ∷ headerMark ∷ 0 ∷ (x.slots - n) ∷ 0 ∷ 0 ∷ 0 ∷ 0 ∷ [] in
+    let head : Bytes = mark_byte ∷ header_mark ∷ 0 ∷ (x.slots - n) ∷ 0 ∷ 0 ∷ 0 ∷ 0 ∷ [] in
     let m : ℕ = 256 - length (head ++ from 0 n) in
-    let all : length (from 0 n) + m ≡ 248 = omega (arith, from-length n 0) in
-    let left : x.slots - length (from 0 n) ≡ x.slots - n = ap (λ (k : ℕ). x.slots - k) (from-length n 0) in
+    let all : length (from 0 n) + m ≡ 248 = omega (arith, from_length n 0) in
+    let left : x.slots - length (from 0 n) ≡ x.slots - n = ap (λ (k : ℕ). x.slots - k) (from_length n 0) in
     rw left (put head m refl (rw all))

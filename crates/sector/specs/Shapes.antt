@@ -4,11 +4,11 @@ use Rattle.sector.specs.Contents.{Bytes, File}
 use Rattle.sector.specs.Sectors.{byte}
 
 -- "a byte list of P, R pairs"
-unfoldable pub filesOf : Bytes → List File
-filesOf [] = []
-filesOf (p ∷ []) = []
-filesOf (p ∷ r ∷ l) = record { pages = p; slots = r } ∷ filesOf l
+unfoldable pub files_of : Bytes → List File
+files_of [] = []
+files_of (p ∷ []) = []
+files_of (p ∷ r ∷ l) = record { pages = p; slots = r } ∷ files_of l
 
 -- The file with index i, which counts from 0.
-abbrev pub pairAt : Bytes → ℕ → File
-pairAt l i = record { pages = byte l (2 * i); slots = byte l (2 * i + 1) }
+abbrev pub pair_at : Bytes → ℕ → File
+pair_at l i = record { pages = byte l (2 * i); slots = byte l (2 * i + 1) }

@@ -1,11 +1,11 @@
 // The control sectors of a new volume, and the record of a new transaction, built in a working sector of zeros.
 ghost use Rattle.std.specs.Prelude.{◌≡◌, [], ◌∷◌, ◌+◌, ◌*◌, ◌/◌, ◌≤◌, ◌<◌, length};
 ghost use Rattle.lists.specs.Lists.{from};
-ghost use Rattle.sector.specs.Layout.{itemsOffset, itemsRoom, itemLength, fileLimit};
-ghost use Rattle.sector.specs.Contents.{File, newHeader};
-ghost use Rattle.sector.specs.Sectors.{wordBytes, zeroSector};
-ghost use Rattle.sector.specs.Encoding.{fileBytes, encodeTable, encodeRecord, encodeHeader};
-ghost use Rattle.sector.specs.Shapes.{filesOf, pairAt};
+ghost use Rattle.sector.specs.Layout.{items_offset, items_room, item_length, file_limit};
+ghost use Rattle.sector.specs.Contents.{File, new_header};
+ghost use Rattle.sector.specs.Sectors.{word_bytes, zero_sector};
+ghost use Rattle.sector.specs.Encoding.{file_bytes, encode_table, encode_record, encode_header};
+ghost use Rattle.sector.specs.Shapes.{files_of, pair_at};
 ghost use Rattle.sector.specs.Puts.{Puts};
 
 use crate::layout::{Offset, Sector};
@@ -21,8 +21,8 @@ fn high(n: usize) -> u8
 
 // A file's entry in the table, from byte `at` on.
 fn put_entry(buf: &mut [u8; 256], at: usize, header: usize, pages: u8, slots: u8)
-    requires { (length buf.old ≡ 256) × (at + itemLength ≤ 256) × (header < 65536) }
-    ensures puts { Puts at (wordBytes header (pages ∷ slots ∷ [])) buf.old buf.new }
+    requires { (length buf.old ≡ 256) × (at + item_length ≤ 256) × (header < 65536) }
+    ensures puts { Puts at (word_bytes header (pages ∷ slots ∷ [])) buf.old buf.new }
     ensures buf_len { length buf.new ≡ 256 }
 {
     buf[at] = low(header);
@@ -33,8 +33,8 @@ fn put_entry(buf: &mut [u8; 256], at: usize, header: usize, pages: u8, slots: u8
 
 // The entries of all files in the table; the header of the first one is sector `first`.
 fn put_entries(buf: &mut [u8; 256], first: usize, shape: &[u8])
-    requires { (length buf.old ≡ 256) × (first ≤ 256) × (length shape.now ≤ 2 * fileLimit) }
-    ensures puts { Puts itemsOffset (fileBytes first (filesOf shape.now)) buf.old buf.new }
+    requires { (length buf.old ≡ 256) × (first ≤ 256) × (length shape.now ≤ 2 * file_limit) }
+    ensures puts { Puts items_offset (file_bytes first (files_of shape.now)) buf.old buf.new }
     ensures buf_len { length buf.new ≡ 256 }
 {
     let n = shape.len() / 2;
@@ -56,8 +56,8 @@ fn put_entries(buf: &mut [u8; 256], first: usize, shape: &[u8])
 
 // The table, made of zeros.
 pub fn new_table(buf: &mut [u8; 256], sectors: usize, clients: u8, shape: &[u8])
-    requires { (buf.old ≡ zeroSector) × (sectors < 65536) × (length shape.now ≤ 2 * fileLimit) }
-    ensures buf_after { buf.new ≡ encodeTable (record { sectors = sectors; clients = clients; files = filesOf shape.now }) }
+    requires { (buf.old ≡ zero_sector) × (sectors < 65536) × (length shape.now ≤ 2 * file_limit) }
+    ensures buf_after { buf.new ≡ encode_table (record { sectors = sectors; clients = clients; files = files_of shape.now }) }
     ensures buf_len { length buf.new ≡ 256 }
 {
     buf[0] = Sector::MARK;
@@ -71,8 +71,8 @@ pub fn new_table(buf: &mut [u8; 256], sectors: usize, clients: u8, shape: &[u8])
 
 // An intentions record with no entries, made of zeros.
 pub fn empty_record(buf: &mut [u8; 256], state: u8)
-    requires { buf.old ≡ zeroSector }
-    ensures buf_after { buf.new ≡ encodeRecord (record { state = state; entries = [] }) }
+    requires { buf.old ≡ zero_sector }
+    ensures buf_after { buf.new ≡ encode_record (record { state = state; entries = [] }) }
     ensures buf_len { length buf.new ≡ 256 }
 {
     buf[0] = Sector::MARK;
@@ -83,9 +83,9 @@ pub fn empty_record(buf: &mut [u8; 256], state: u8)
 // The header of the new file that has index i in the list, made of zeros: it has no holder, page p is in slot p, and the
 // slots above the last page's are left.
 pub fn new_header(buf: &mut [u8; 256], shape: &[u8], i: usize)
-    requires { (buf.old ≡ zeroSector) × (length shape.now ≤ 2 * fileLimit) × (i < length shape.now / 2)
-        × ((pairAt shape.now i).pages ≤ itemsRoom) × ((pairAt shape.now i).pages ≤ (pairAt shape.now i).slots) }
-    ensures buf_after { buf.new ≡ encodeHeader (pairAt shape.now i) (newHeader (pairAt shape.now i)) }
+    requires { (buf.old ≡ zero_sector) × (length shape.now ≤ 2 * file_limit) × (i < length shape.now / 2)
+        × ((pair_at shape.now i).pages ≤ items_room) × ((pair_at shape.now i).pages ≤ (pair_at shape.now i).slots) }
+    ensures buf_after { buf.new ≡ encode_header (pair_at shape.now i) (new_header (pair_at shape.now i)) }
     ensures buf_len { length buf.new ≡ 256 }
 {
     buf[0] = Sector::MARK;
@@ -97,8 +97,8 @@ pub fn new_header(buf: &mut [u8; 256], shape: &[u8], i: usize)
 
 // The map of a new file.
 fn put_map(buf: &mut [u8; 256], pages: u8)
-    requires { (length buf.old ≡ 256) × (pages ≤ itemsRoom) }
-    ensures puts { Puts itemsOffset (from 0 pages) buf.old buf.new }
+    requires { (length buf.old ≡ 256) × (pages ≤ items_room) }
+    ensures puts { Puts items_offset (from 0 pages) buf.old buf.new }
     ensures buf_len { length buf.new ≡ 256 }
 {
     let mut p = 0;

@@ -1,8 +1,8 @@
 // Readers of a sector, and of the fields of a control sector by position. Each takes the 256 bytes of the sector.
 ghost use Rattle.std.specs.Prelude.{◌≡◌, ◌+◌, ◌*◌, ◌≤◌, ◌<◌, ◌%◌, length};
-ghost use Rattle.sector.specs.Layout.{itemsRoom, entryLimit};
+ghost use Rattle.sector.specs.Layout.{items_room, entry_limit};
 ghost use Rattle.sector.specs.Sectors.{sector, byte, word};
-ghost use Rattle.sector.specs.Decoding.{sectorsIn, clientsIn, fileCountIn, headerSectorIn, fileIn, stateIn, countIn, entryIn, holderIn, spareIn, mapIn};
+ghost use Rattle.sector.specs.Decoding.{sectors_in, clients_in, file_count_in, header_sector_in, file_in, state_in, count_in, entry_in, holder_in, spare_in, map_in};
 
 use crate::layout::{Offset, Sector};
 
@@ -41,7 +41,7 @@ pub fn word_at(d: &[u8], i: usize) -> usize
 // Sector 0: the sectors of the volume.
 pub fn table_sectors(d: &[u8]) -> usize
     requires { length d.now ≡ 256 }
-    ensures { (result ≡ sectorsIn d.now) × (result < 65536) }
+    ensures { (result ≡ sectors_in d.now) × (result < 65536) }
 {
     word_at(d, Offset::SECTORS)
 }
@@ -49,7 +49,7 @@ pub fn table_sectors(d: &[u8]) -> usize
 // Its clients.
 pub fn table_clients(d: &[u8]) -> u8
     requires { length d.now ≡ 256 }
-    ensures { result ≡ clientsIn d.now }
+    ensures { result ≡ clients_in d.now }
 {
     d[Offset::CLIENTS]
 }
@@ -57,31 +57,31 @@ pub fn table_clients(d: &[u8]) -> u8
 // Its files.
 pub fn table_files(d: &[u8]) -> u8
     requires { length d.now ≡ 256 }
-    ensures { result ≡ fileCountIn d.now }
+    ensures { result ≡ file_count_in d.now }
 {
     d[Offset::FILES]
 }
 
 // The header sector of the file with index i, which counts from 0.
 pub fn file_header(d: &[u8], i: usize) -> usize
-    requires { (length d.now ≡ 256) × (i < entryLimit) }
-    ensures { (result ≡ headerSectorIn d.now i) × (result < 65536) }
+    requires { (length d.now ≡ 256) × (i < entry_limit) }
+    ensures { (result ≡ header_sector_in d.now i) × (result < 65536) }
 {
     word_at(d, Offset::ITEMS + Offset::ITEM * i)
 }
 
 // Its pages.
 pub fn file_pages(d: &[u8], i: usize) -> u8
-    requires { (length d.now ≡ 256) × (i < entryLimit) }
-    ensures { result ≡ (fileIn d.now i).pages }
+    requires { (length d.now ≡ 256) × (i < entry_limit) }
+    ensures { result ≡ (file_in d.now i).pages }
 {
     d[Offset::ITEMS + Offset::ITEM * i + Offset::PAGES]
 }
 
 // Its slots.
 pub fn file_slots(d: &[u8], i: usize) -> u8
-    requires { (length d.now ≡ 256) × (i < entryLimit) }
-    ensures { result ≡ (fileIn d.now i).slots }
+    requires { (length d.now ≡ 256) × (i < entry_limit) }
+    ensures { result ≡ (file_in d.now i).slots }
 {
     d[Offset::ITEMS + Offset::ITEM * i + Offset::SLOTS]
 }
@@ -89,7 +89,7 @@ pub fn file_slots(d: &[u8], i: usize) -> u8
 // An intentions record's state.
 pub fn record_state(d: &[u8]) -> u8
     requires { length d.now ≡ 256 }
-    ensures { result ≡ stateIn d.now }
+    ensures { result ≡ state_in d.now }
 {
     d[Offset::STATE]
 }
@@ -97,31 +97,31 @@ pub fn record_state(d: &[u8]) -> u8
 // The number of its entries.
 pub fn record_count(d: &[u8]) -> u8
     requires { length d.now ≡ 256 }
-    ensures { result ≡ countIn d.now }
+    ensures { result ≡ count_in d.now }
 {
     d[Offset::COUNT]
 }
 
 // The file of the entry with index i, which counts from 0.
 pub fn entry_file(d: &[u8], i: usize) -> u8
-    requires { (length d.now ≡ 256) × (i < entryLimit) }
-    ensures { result ≡ (entryIn d.now i).file }
+    requires { (length d.now ≡ 256) × (i < entry_limit) }
+    ensures { result ≡ (entry_in d.now i).file }
 {
     d[Offset::ITEMS + Offset::ITEM * i]
 }
 
 // Its page.
 pub fn entry_page(d: &[u8], i: usize) -> u8
-    requires { (length d.now ≡ 256) × (i < entryLimit) }
-    ensures { result ≡ (entryIn d.now i).page }
+    requires { (length d.now ≡ 256) × (i < entry_limit) }
+    ensures { result ≡ (entry_in d.now i).page }
 {
     d[Offset::ITEMS + Offset::ITEM * i + Offset::PAGE]
 }
 
 // Its slot.
 pub fn entry_slot(d: &[u8], i: usize) -> u8
-    requires { (length d.now ≡ 256) × (i < entryLimit) }
-    ensures { result ≡ (entryIn d.now i).slot }
+    requires { (length d.now ≡ 256) × (i < entry_limit) }
+    ensures { result ≡ (entry_in d.now i).slot }
 {
     d[Offset::ITEMS + Offset::ITEM * i + Offset::SLOT]
 }
@@ -129,7 +129,7 @@ pub fn entry_slot(d: &[u8], i: usize) -> u8
 // A file header's holder.
 pub fn header_holder(d: &[u8]) -> u8
     requires { length d.now ≡ 256 }
-    ensures { result ≡ holderIn d.now }
+    ensures { result ≡ holder_in d.now }
 {
     d[Offset::HOLDER]
 }
@@ -137,15 +137,15 @@ pub fn header_holder(d: &[u8]) -> u8
 // The number of slots that it says are left.
 pub fn header_spare(d: &[u8]) -> u8
     requires { length d.now ≡ 256 }
-    ensures { result ≡ spareIn d.now }
+    ensures { result ≡ spare_in d.now }
 {
     d[Offset::SPARE]
 }
 
 // The slot that its map has for page p.
 pub fn map_slot(d: &[u8], p: usize) -> u8
-    requires { (length d.now ≡ 256) × (p < itemsRoom) }
-    ensures { result ≡ mapIn d.now p }
+    requires { (length d.now ≡ 256) × (p < items_room) }
+    ensures { result ≡ map_in d.now p }
 {
     d[Offset::ITEMS + p]
 }

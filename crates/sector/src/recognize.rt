@@ -1,17 +1,17 @@
 // Whether a sector is the encoding of a record or a header, or has a table's frame. All have one frame: mark, fields, zeros,
 // items, zeros.
 ghost use Rattle.std.specs.Prelude.{◌≡◌, ◌≤◌, ◌<◌, length, drop};
-ghost use Rattle.sector.specs.Layout.{itemsOffset, itemsRoom, entryLimit};
-ghost use Rattle.sector.specs.Decoding.{fileCountIn, fileIn};
-ghost use Rattle.sector.specs.Encoded.{isRecordEncoding, isHeaderEncoding, allZero, hasMark, hasHeaderMark, framed, tableFramed, entriesClosed};
+ghost use Rattle.sector.specs.Layout.{items_offset, items_room, entry_limit};
+ghost use Rattle.sector.specs.Decoding.{file_count_in, file_in};
+ghost use Rattle.sector.specs.Encoded.{is_record_encoding, is_header_encoding, all_zero, has_mark, has_header_mark, framed, table_framed, entries_closed};
 
 use crate::layout::{Limits, Offset, Sector};
 use crate::read::{file_pages, file_slots, header_spare, record_count, table_files, wide, word_at};
 
 // Whether the sector has a table's frame. It is a table's encoding if its files name the right headers as well.
 pub fn has_table_frame(d: &[u8]) -> bool
-    requires { (length d.now ≡ 256) × (fileCountIn d.now ≤ entryLimit) }
-    ensures { result ≡ tableFramed d.now }
+    requires { (length d.now ≡ 256) × (file_count_in d.now ≤ entry_limit) }
+    ensures { result ≡ table_framed d.now }
 {
     has_frame(
         d,
@@ -24,7 +24,7 @@ pub fn has_table_frame(d: &[u8]) -> bool
 // Whether the sector is an intentions record's encoding.
 pub fn is_record(d: &[u8]) -> bool
     requires { length d.now ≡ 256 }
-    ensures { result ≡ isRecordEncoding d.now }
+    ensures { result ≡ is_record_encoding d.now }
 {
     let n = wide(record_count(d));
     if Limits::ENTRIES < n {
@@ -43,9 +43,9 @@ pub fn is_record(d: &[u8]) -> bool
 
 // Whether the sector is the encoding of a header of the file that has index i in the table.
 pub fn is_header(d: &[u8], table: &[u8], i: usize) -> bool
-    requires { (length d.now ≡ 256) × (length table.now ≡ 256) × (i < entryLimit)
-        × ((fileIn table.now i).pages ≤ itemsRoom) × ((fileIn table.now i).pages ≤ (fileIn table.now i).slots) }
-    ensures { result ≡ isHeaderEncoding (fileIn table.now i) d.now }
+    requires { (length d.now ≡ 256) × (length table.now ≡ 256) × (i < entry_limit)
+        × ((file_in table.now i).pages ≤ items_room) × ((file_in table.now i).pages ≤ (file_in table.now i).slots) }
+    ensures { result ≡ is_header_encoding (file_in table.now i) d.now }
 {
     let pages = file_pages(table, i);
     if header_spare(d) != file_slots(table, i) - pages {
@@ -62,7 +62,7 @@ pub fn is_header(d: &[u8], table: &[u8], i: usize) -> bool
 // Whether the sector has a header's mark.
 pub fn has_header_mark(d: &[u8]) -> bool
     requires { length d.now ≡ 256 }
-    ensures { result ≡ hasHeaderMark d.now }
+    ensures { result ≡ has_header_mark d.now }
 {
     has_mark(d, Sector::HEADER_MARK)
 }
@@ -70,14 +70,14 @@ pub fn has_header_mark(d: &[u8]) -> bool
 // Whether the sector has the mark with this second byte. The two bytes are compared as one number.
 fn has_mark(d: &[u8], second: u8) -> bool
     requires { length d.now ≡ 256 }
-    ensures { result ≡ hasMark second d.now }
+    ensures { result ≡ has_mark second d.now }
 {
     word_at(d, 0) == wide(Sector::MARK) + 256 * wide(second)
 }
 
 // Whether the mark is the one with this second byte, and the bytes from `gap` to the items and from `tail` on are zero.
 fn has_frame(d: &[u8], second: u8, gap: usize, tail: usize) -> bool
-    requires { (length d.now ≡ 256) × (gap ≤ itemsOffset) }
+    requires { (length d.now ≡ 256) × (gap ≤ items_offset) }
     ensures { result ≡ framed second gap tail d.now }
 {
     if !has_mark(d, second) {
@@ -91,7 +91,7 @@ fn has_frame(d: &[u8], second: u8, gap: usize, tail: usize) -> bool
 
 // Whether every byte from `start` on is zero. All of them are or-ed, with no branch on the way.
 fn zero_from(s: &[u8], start: usize) -> bool
-    ensures { result ≡ allZero (drop start s.now) }
+    ensures { result ≡ all_zero (drop start s.now) }
 {
     let mut bits: u8 = 0;
     for i in start..s.len() {
@@ -102,8 +102,8 @@ fn zero_from(s: &[u8], start: usize) -> bool
 
 // Whether each of the n entries ends with a zero byte. All of these are or-ed.
 fn entries_closed(d: &[u8], n: usize) -> bool
-    requires { (length d.now ≡ 256) × (n ≤ entryLimit) }
-    ensures { result ≡ entriesClosed n (drop itemsOffset d.now) }
+    requires { (length d.now ≡ 256) × (n ≤ entry_limit) }
+    ensures { result ≡ entries_closed n (drop items_offset d.now) }
 {
     let mut bits: u8 = 0;
     for i in 0..n {

@@ -1,7 +1,7 @@
 // The reading holds of a session: bit f - 1 of client k's word is its hold of file f.
 ghost use Rattle.std.specs.Prelude.{◌≡◌, false, not, ◌&&◌, ◌-◌, ◌^◌, ◌≤◌, ◌<◌, eqb};
 ghost use Rattle.lists.specs.Lists.{every, from};
-ghost use Rattle.rules.specs.Sessions.{setActive, filesRead, isReading, withReading, withoutReading, withoutReader, isReadByOther};
+ghost use Rattle.rules.specs.Sessions.{set_active, files_read, is_reading, with_reading, without_reading, without_reader, is_read_by_other};
 
 use crate::marks::set_active;
 use interface::Session;
@@ -19,7 +19,7 @@ fn mask(f: u8) -> u16
 // another client.
 pub fn is_reading(s: Session, k: u8, f: u8) -> bool
     requires { (1 ≤ k) × (k ≤ 4) × (1 ≤ f) × (f ≤ 16) }
-    ensures { result ≡ isReading s k f }
+    ensures { result ≡ is_reading s k f }
 {
     let at = sector::wide(k) - 1;
     s.reading[at] & mask(f) != 0
@@ -29,7 +29,7 @@ pub fn is_reading(s: Session, k: u8, f: u8) -> bool
 // the hold not noted, or the client's others gone (`must-fail/hold_not_noted`).
 pub fn with_reading(mut s: Session, k: u8, f: u8) -> Session
     requires { (1 ≤ k) × (k ≤ 4) × (1 ≤ f) × (f ≤ 16) }
-    ensures { result ≡ withReading s k f }
+    ensures { result ≡ with_reading s k f }
 {
     let at = sector::wide(k) - 1;
     let m = mask(f);
@@ -47,7 +47,7 @@ pub fn number_of(word: u16) -> u64
 // A number that is 0 just where the session has no reading hold: its four words as one. Most sessions have none, so this
 // is looked at first.
 pub fn all_holds(s: Session) -> u64
-    ensures { eqb result 0 ≡ every (λ k. eqb (filesRead s k) 0) (from 1 4) }
+    ensures { eqb result 0 ≡ every (λ k. eqb (files_read s k) 0) (from 1 4) }
 {
     number_of(s.reading[0])
         + 65536 * number_of(s.reading[1])
@@ -59,7 +59,7 @@ pub fn all_holds(s: Session) -> u64
 // (`must-fail/file_1_ended`); the hold kept.
 pub fn without_reading(s: Session, k: u8, f: u8) -> Session
     requires { (1 ≤ k) × (k ≤ 4) × (1 ≤ f) × (f ≤ 16) }
-    ensures { result ≡ withoutReading s k f }
+    ensures { result ≡ without_reading s k f }
 {
     if all_holds(s) == 0 {
         return s;
@@ -70,7 +70,7 @@ pub fn without_reading(s: Session, k: u8, f: u8) -> Session
 // The same, where there may be holds: the bit of file f is taken out of client k's word.
 fn cleared(mut s: Session, k: u8, f: u8) -> Session
     requires { (1 ≤ k) × (k ≤ 4) × (1 ≤ f) × (f ≤ 16) }
-    ensures { result ≡ withoutReading s k f }
+    ensures { result ≡ without_reading s k f }
 {
     let at = sector::wide(k) - 1;
     let m = mask(f);
@@ -85,7 +85,7 @@ fn cleared(mut s: Session, k: u8, f: u8) -> Session
 // (`must-fail/hold_after_commit`); another client's ended.
 pub fn without_client(s: Session, k: u8) -> Session
     requires { (1 ≤ k) × (k ≤ 4) }
-    ensures { result ≡ withoutReader (setActive s k false) k }
+    ensures { result ≡ without_reader (set_active s k false) k }
 {
     let mut next = set_active(s, k, false);
     let at = sector::wide(k) - 1;
@@ -96,7 +96,7 @@ pub fn without_client(s: Session, k: u8) -> Session
 // Whether client j is another than k and holds file f for reading.
 fn reads_beside(s: Session, j: u8, k: u8, f: u8) -> bool
     requires { (1 ≤ j) × (j ≤ 4) × (1 ≤ f) × (f ≤ 16) }
-    ensures { result ≡ (not (eqb j k) && isReading s j f) }
+    ensures { result ≡ (not (eqb j k) && is_reading s j f) }
 {
     if j == k {
         return false;
@@ -108,7 +108,7 @@ fn reads_beside(s: Session, j: u8, k: u8, f: u8) -> bool
 // (`must-fail/reader_4_overlooked`); the client itself taken for another.
 pub fn is_read_by_other(s: Session, k: u8, f: u8) -> bool
     requires { (1 ≤ f) × (f ≤ 16) }
-    ensures { result ≡ isReadByOther s k f }
+    ensures { result ≡ is_read_by_other s k f }
 {
     if all_holds(s) == 0 {
         return false;

@@ -4,7 +4,7 @@ ghost use Rattle.sector.specs.Contents.{Table};
 ghost use Rattle.volume.specs.Views.{View};
 ghost use Rattle.volume.specs.Volumes.{view};
 ghost use Rattle.volume.specs.WellFormed.{WellFormed};
-ghost use Rattle.rules.specs.Sessions.{isReading, holdFits, clientHoldsFit, holdsFit};
+ghost use Rattle.rules.specs.Sessions.{is_reading, hold_fits, client_holds_fit, holds_fit};
 
 use crate::holds::{all_holds, is_reading, number_of};
 use crate::marks::is_active;
@@ -13,7 +13,7 @@ use interface::Session;
 // Whether client k may hold file f for reading: it is marked, and the file exists and has no holder.
 fn hold_fits(v: &[u8], s: Session, k: u8, f: u8) -> bool
     requires { WellFormed v.now × (1 ≤ k) × (k ≤ 4) × (1 ≤ f) }
-    ensures { result ≡ holdFits (view v.now) s k f }
+    ensures { result ≡ hold_fits (view v.now) s k f }
 {
     if !is_active(s, k) {
         return false;
@@ -27,7 +27,7 @@ fn hold_fits(v: &[u8], s: Session, k: u8, f: u8) -> bool
 // Whether client k doesn't hold file f for reading, or may.
 fn noted_fits(v: &[u8], s: Session, k: u8, f: u8) -> bool
     requires { WellFormed v.now × (1 ≤ k) × (k ≤ 4) × (1 ≤ f) × (f ≤ 16) }
-    ensures { result ≡ (not (isReading s k f) || holdFits (view v.now) s k f) }
+    ensures { result ≡ (not (is_reading s k f) || hold_fits (view v.now) s k f) }
 {
     if is_reading(s, k, f) {
         return hold_fits(v, s, k, f);
@@ -38,7 +38,7 @@ fn noted_fits(v: &[u8], s: Session, k: u8, f: u8) -> bool
 // Whether client k may hold for reading every file that it so holds. `left` are the bits of the files from f on.
 fn client_holds_fit(v: &[u8], s: Session, k: u8) -> bool
     requires { WellFormed v.now × (1 ≤ k) × (k ≤ 4) }
-    ensures { result ≡ clientHoldsFit (view v.now) s k }
+    ensures { result ≡ client_holds_fit (view v.now) s k }
 {
     let at = sector::wide(k) - 1;
     let mut left = number_of(s.reading[at]);
@@ -57,7 +57,7 @@ fn client_holds_fit(v: &[u8], s: Session, k: u8) -> bool
 // (`must-fail/held_file_accepted`); one client's holds alone looked at (`must-fail/holds_of_client_1`).
 pub fn holds_fit(v: &[u8], s: Session) -> bool
     requires { WellFormed v.now }
-    ensures { result ≡ holdsFit (view v.now) s }
+    ensures { result ≡ holds_fit (view v.now) s }
 {
     if all_holds(s) == 0 {
         return true;

@@ -9,7 +9,7 @@ mod marks_fit;
 ghost use Rattle.std.specs.Prelude.{◌≡◌};
 ghost use Rattle.volume.specs.Volumes.{view};
 ghost use Rattle.volume.specs.WellFormed.{WellFormed};
-ghost use Rattle.rules.specs.Sessions.{sessionFits};
+ghost use Rattle.rules.specs.Sessions.{session_fits};
 
 use crate::holds_fit::holds_fit;
 use crate::marks_fit::marks_fit;
@@ -20,7 +20,7 @@ pub use marks::{is_active, set_active};
 // Whether the session fits the volume. Ruled out: what `marks_fit` and `holds_fit` name.
 pub fn session_fits(v: &[u8], s: Session) -> bool
     requires { WellFormed v.now }
-    ensures { result ≡ sessionFits (view v.now) s }
+    ensures { result ≡ session_fits (view v.now) s }
 {
     if !marks_fit(v, s) {
         return false;

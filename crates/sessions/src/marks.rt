@@ -1,13 +1,13 @@
 // The marks of a session: which clients have a transaction running.
 ghost use Rattle.std.specs.Prelude.{◌≡◌, ◌≤◌};
-ghost use Rattle.rules.specs.Sessions.{isActive, setActive};
+ghost use Rattle.rules.specs.Sessions.{is_active, set_active};
 
 use interface::Session;
 
 // Whether client k has a transaction running.
 pub fn is_active(s: Session, k: u8) -> bool
     requires { (1 ≤ k) × (k ≤ 4) }
-    ensures { result ≡ isActive s k }
+    ensures { result ≡ is_active s k }
 {
     let at = sector::wide(k) - 1;
     s.active[at]
@@ -16,7 +16,7 @@ pub fn is_active(s: Session, k: u8) -> bool
 // The session with client k marked, or not.
 pub fn set_active(mut s: Session, k: u8, on: bool) -> Session
     requires { (1 ≤ k) × (k ≤ 4) }
-    ensures { result ≡ setActive s k on }
+    ensures { result ≡ set_active s k on }
 {
     let at = sector::wide(k) - 1;
     s.active[at] = on;

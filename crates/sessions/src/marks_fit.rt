@@ -6,7 +6,7 @@ ghost use Rattle.volume.specs.Places.{IsClient};
 ghost use Rattle.volume.specs.Views.{View};
 ghost use Rattle.volume.specs.Volumes.{view};
 ghost use Rattle.volume.specs.WellFormed.{WellFormed};
-ghost use Rattle.rules.specs.Sessions.{isActive, holds, markFits, marksFit};
+ghost use Rattle.rules.specs.Sessions.{is_active, holds, mark_fits, marks_fit};
 
 use crate::marks::is_active;
 use interface::Session;
@@ -32,7 +32,7 @@ fn entries_held(v: &[u8], k: u8) -> bool
 // Whether client k may be marked: it exists, its record is open, and it holds the files of its entries.
 fn mark_fits(v: &[u8], k: u8) -> bool
     requires { WellFormed v.now × (1 ≤ k) }
-    ensures { result ≡ markFits (view v.now) k }
+    ensures { result ≡ mark_fits (view v.now) k }
 {
     if volume::clients(v) < k {
         return false;
@@ -46,7 +46,7 @@ fn mark_fits(v: &[u8], k: u8) -> bool
 // Whether client k is not marked, or may be.
 fn marked_fits(v: &[u8], s: Session, k: u8) -> bool
     requires { WellFormed v.now × (1 ≤ k) × (k ≤ 4) }
-    ensures { result ≡ (not (isActive s k) || markFits (view v.now) k) }
+    ensures { result ≡ (not (is_active s k) || mark_fits (view v.now) k) }
 {
     if is_active(s, k) {
         return mark_fits(v, k);
@@ -58,7 +58,7 @@ fn marked_fits(v: &[u8], s: Session, k: u8) -> bool
 // test of the records' states alone (`rules/must-fail/stray_entry_accepted`).
 pub fn marks_fit(v: &[u8], s: Session) -> bool
     requires { WellFormed v.now }
-    ensures { result ≡ marksFit (view v.now) s }
+    ensures { result ≡ marks_fit (view v.now) s }
 {
     let mut k: u8 = 1;
     while k < 5 {

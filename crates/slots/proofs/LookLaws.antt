@@ -7,12 +7,12 @@ use native.Mathlib.Omega.{arith}
 use Rattle.volume.specs.Places.{IsClient, IsFile}
 use Rattle.volume.specs.Volumes.{Volume, view}
 use Rattle.volume.specs.Sound.{sound}
-use Rattle.volume.proofs.LawfulLaws.{Lawful, lawful-facts}
-use Rattle.volume.proofs.SoundLaws.{sound-lawful}
+use Rattle.volume.proofs.LawfulLaws.{Lawful, lawful_facts}
+use Rattle.volume.proofs.SoundLaws.{sound_lawful}
 
 module _ (v : Volume) (ok : sound v ≡ true) where
-  pub sound-laws : Lawful (view v).table (view v)
-  sound-laws = lawful-facts (view v) (sound-lawful v ok)
+  pub sound_laws : Lawful (view v).table (view v)
+  sound_laws = lawful_facts (view v) (sound_lawful v ok)
 
-  pub holder-client : {f k : ℕ} → IsFile (view v).table f → k ≡ ((view v).headers f).holder → k ≢ 0 → IsClient (view v).table k
-  holder-client {f} {k} i e n = record { low = omega arith; high = rw e ((sound-laws.headers f i).holder (rw e at n)).client }
+  pub holder_client : {f k : ℕ} → IsFile (view v).table f → k ≡ ((view v).headers f).holder → k ≢ 0 → IsClient (view v).table k
+  holder_client {f} {k} i e n = record { low = omega arith; high = rw e ((sound_laws.headers f i).holder (rw e at n)).client }

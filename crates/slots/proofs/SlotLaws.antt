@@ -11,22 +11,22 @@ use lib.Dec.{leb, ltb}
 use lib.ListN.{get_elem?}
 use Rattle.lists.specs.Lists.{any, filter, member, from}
 use Rattle.sector.specs.Contents.{Entry}
-use Rattle.sector.specs.Entries.{givesSlot}
-use Rattle.lists.proofs.ListLaws.{or-right}
-use Rattle.lists.proofs.SearchLaws.{none-some, first-append, filter-both, filter-none, filter-first}
-use Rattle.lists.proofs.TestLaws.{not-or}
-use Rattle.volume.specs.Places.{fileAt}
+use Rattle.sector.specs.Entries.{gives_slot}
+use Rattle.lists.proofs.ListLaws.{or_right}
+use Rattle.lists.proofs.SearchLaws.{none_some, first_append, filter_both, filter_none, filter_first}
+use Rattle.lists.proofs.TestLaws.{not_or}
+use Rattle.volume.specs.Places.{file_at}
 use Rattle.volume.specs.Views.{View}
-use Rattle.byteset.specs.Set.{noBytes, hasByte, passesOver, LowestFailing}
-use Rattle.byteset.proofs.SetLaws.{has-none}
-use Rattle.rules.specs.Plans.{isFree, freeSlots, startFor, triedFrom}
-use Rattle.slots.specs.Slots.{entrySlot}
+use Rattle.byteset.specs.Set.{no_bytes, has_byte, passes_over, LowestFailing}
+use Rattle.byteset.proofs.SetLaws.{has_none}
+use Rattle.rules.specs.Plans.{is_free, free_slots, start_for, tried_from}
+use Rattle.slots.specs.Slots.{entry_slot}
 
 -- ------------------------------------------------------------------ the entry that was found
-pub no-entry : (o : Option Entry) → none ≡ entrySlot o → o ≡ none
-unfolding entrySlot
-no-entry none e = refl
-no-entry (some x) e = none-some x.slot e
+pub no_entry_lem : (o : Option Entry) → none ≡ entry_slot o → o ≡ none
+unfolding entry_slot
+no_entry_lem none e = refl
+no_entry_lem (some x) e = none_some x.slot e
 
 -- There is one, with this slot.
 pub record EntryAt (o : Option Entry) (r : ℕ) : Type 0 where
@@ -34,15 +34,15 @@ pub record EntryAt (o : Option Entry) (r : ℕ) : Type 0 where
   pub found : o ≡ some entry
   pub slot : entry.slot ≡ r
 
-pub entry-at : (o : Option Entry) (r : ℕ) → some r ≡ entrySlot o → EntryAt o r
-unfolding entrySlot
-entry-at none r e = none-some r (sym e)
-entry-at (some x) r e = record { entry = x; found = refl; slot = cc }
+pub entry_at : (o : Option Entry) (r : ℕ) → some r ≡ entry_slot o → EntryAt o r
+unfolding entry_slot
+entry_at none r e = none_some r (sym e)
+entry_at (some x) r e = record { entry = x; found = refl; slot = cc }
 
 -- ------------------------------------------------------------------ the free slots
 -- A slot from `start` on that is not in the set is one that the search doesn't pass over.
-from-start : (start y : ℕ) (s : List ℕ) → (leb start y && not (hasByte s y)) ≡ not (passesOver start s y)
-from-start start y s = go (hasByte s y) (ltb y start) refl
+from_start : (start y : ℕ) (s : List ℕ) → (leb start y && not (has_byte s y)) ≡ not (passes_over start s y)
+from_start start y s = go (has_byte s y) (ltb y start) refl
   where
     go : (b c : Bool) → ltb y start ≡ c → (leb start y && not b) ≡ not (b || c)
     go true c e = and-false (leb start y)
@@ -50,50 +50,50 @@ from-start start y s = go (hasByte s y) (ltb y start) refl
     go false false e = rw (le-leb start y (ltb-false y start e))
 
 -- A search from 0 on passes over what is in the set.
-from-zero : (y : ℕ) (s : List ℕ) → passesOver 0 s y ≡ hasByte s y
-from-zero y s = rw (le-ltb y 0 zero-le) (or-false (hasByte s y))
+from_zero : (y : ℕ) (s : List ℕ) → passes_over 0 s y ≡ has_byte s y
+from_zero y s = rw (le-ltb y 0 zero-le) (or-false (has_byte s y))
 
 -- Where the set s has the slots of the map, and t those that are given too, the slots that are not in t are free. r is what a
 -- search from `start` on finds of them, and q one from 0 on.
-module _ (a : View) (k f : ℕ) (s t : List ℕ) (mapped : (y : ℕ) → hasByte s y ≡ (hasByte noBytes y || member y (a.headers f).map))
-    (given : (y : ℕ) → hasByte t y ≡ (hasByte s y || any (givesSlot f y) (a.records k).entries))
-    (p start n r : ℕ) (size : n ≡ (fileAt a.table f).slots) (begins : start ≡ startFor a f p)
-    (high : LowestFailing (passesOver start t) n r) where
+module _ (a : View) (k f : ℕ) (s t : List ℕ) (mapped : (y : ℕ) → has_byte s y ≡ (has_byte no_bytes y || member y (a.headers f).map))
+    (given : (y : ℕ) → has_byte t y ≡ (has_byte s y || any (gives_slot f y) (a.records k).entries))
+    (p start n r : ℕ) (size : n ≡ (file_at a.table f).slots) (begins : start ≡ start_for a f p)
+    (high : LowestFailing (passes_over start t) n r) where
   -- The slots tried, as the numbers that pass these tests.
   abbrev up : ℕ → Bool
-  up y = leb start y && not (hasByte t y)
+  up y = leb start y && not (has_byte t y)
 
   abbrev down : ℕ → Bool
-  down y = ltb y start && not (hasByte t y)
+  down y = ltb y start && not (has_byte t y)
 
-  are-free : filter (λ y. not (hasByte t y)) (from 0 n) ≡ freeSlots a k f
-  unfolding freeSlots
-  are-free = rw size (ap (λ (u : ℕ → Bool). filter u (from 0 (fileAt a.table f).slots)) (λ i y. (is y) i))
+  are_free : filter (λ y. not (has_byte t y)) (from 0 n) ≡ free_slots a k f
+  unfolding free_slots
+  are_free = rw size (ap (λ (u : ℕ → Bool). filter u (from 0 (file_at a.table f).slots)) (λ i y. (is y) i))
     where
-      is : (y : ℕ) → not (hasByte t y) ≡ isFree a k f y
-      is y = rw (given y, mapped y, has-none y) (not-or (member y (a.headers f).map) (any (givesSlot f y) (a.records k).entries))
+      is : (y : ℕ) → not (has_byte t y) ≡ is_free a k f y
+      is y = rw (given y, mapped y, has_none y) (not_or (member y (a.headers f).map) (any (gives_slot f y) (a.records k).entries))
 
-  are-tried : triedFrom (startFor a f p) (freeSlots a k f) ≡ filter up (from 0 n) ++ filter down (from 0 n)
-  are-tried = rw (← begins, ← are-free)
-      (λ i. filter-both (leb start) (λ y. not (hasByte t y)) (from 0 n) i ++ filter-both (λ y. ltb y start) (λ y. not (hasByte t y)) (from 0 n) i)
+  are_tried : tried_from (start_for a f p) (free_slots a k f) ≡ filter up (from 0 n) ++ filter down (from 0 n)
+  are_tried = rw (← begins, ← are_free)
+      (λ i. filter_both (leb start) (λ y. not (has_byte t y)) (from 0 n) i ++ filter_both (λ y. ltb y start) (λ y. not (has_byte t y)) (from 0 n) i)
 
-  pub free-above : r < n → some r ≡ get_elem? (triedFrom (startFor a f p) (freeSlots a k f)) 0
-  free-above h = sym (rw are-tried (first-append (filter up (from 0 n)) (filter down (from 0 n)) r
-      (filter-first up n 0 r (omega arith) (omega arith) (λ y lo hi. from-start start y t ∙ ap not (high.1 y hi))
-      (from-start start r t ∙ ap not (high.2 h)))))
+  pub free_above : r < n → some r ≡ get_elem? (tried_from (start_for a f p) (free_slots a k f)) 0
+  free_above h = sym (rw are_tried (first_append (filter up (from 0 n)) (filter down (from 0 n)) r
+      (filter_first up n 0 r (omega arith) (omega arith) (λ y lo hi. from_start start y t ∙ ap not (high.1 y hi))
+      (from_start start r t ∙ ap not (high.2 h)))))
 
-  module _ (q : ℕ) (low : LowestFailing (passesOver 0 t) n q) (end : n ≤ r) where
-    none-above : filter up (from 0 n) ≡ []
-    none-above = filter-none up n 0 (λ y lo hi. from-start start y t ∙ ap not (high.1 y (omega arith)))
+  module _ (q : ℕ) (low : LowestFailing (passes_over 0 t) n q) (end : n ≤ r) where
+    none_above : filter up (from 0 n) ≡ []
+    none_above = filter_none up n 0 (λ y lo hi. from_start start y t ∙ ap not (high.1 y (omega arith)))
 
     taken : (y : ℕ) → y < q → down y ≡ false
-    taken y h = rw (sym (from-zero y t) ∙ low.1 y h) (and-false (ltb y start))
+    taken y h = rw (sym (from_zero y t) ∙ low.1 y h) (and-false (ltb y start))
 
-    pub free-again : q < n → some q ≡ get_elem? (triedFrom (startFor a f p) (freeSlots a k f)) 0
-    free-again h =
-        let free : hasByte t q ≡ false = sym (from-zero q t) ∙ low.2 h in
-        let before : ltb q start ≡ true = or-right (hasByte t q) (ltb q start) (high.1 q (omega arith)) free in
-        sym (rw (are-tried, none-above) (filter-first down n 0 q (omega arith) (omega arith) (λ y lo hi. taken y hi) (rw (before, free))))
+    pub free_again : q < n → some q ≡ get_elem? (tried_from (start_for a f p) (free_slots a k f)) 0
+    free_again h =
+        let free : has_byte t q ≡ false = sym (from_zero q t) ∙ low.2 h in
+        let before : ltb q start ≡ true = or_right (has_byte t q) (ltb q start) (high.1 q (omega arith)) free in
+        sym (rw (are_tried, none_above) (filter_first down n 0 q (omega arith) (omega arith) (λ y lo hi. taken y hi) (rw (before, free))))
 
-    pub free-none : n ≤ q → none ≡ get_elem? (triedFrom (startFor a f p) (freeSlots a k f)) 0
-    free-none h = rw (are-tried, none-above, filter-none down n 0 (λ y lo hi. taken y (omega arith)))
+    pub free_none : n ≤ q → none ≡ get_elem? (tried_from (start_for a f p) (free_slots a k f)) 0
+    free_none h = rw (are_tried, none_above, filter_none down n 0 (λ y lo hi. taken y (omega arith)))

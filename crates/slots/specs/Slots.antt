@@ -6,11 +6,11 @@ use Rattle.slots.specs.declared.Found.{Found}
 use Rattle.slots.specs.declared.Found.TheVariants.{Slot, Nothing}
 
 -- The slot, if there is one.
-abbrev pub slotOf : Found → Option ℕ
-slotOf (Slot r) = some r
-slotOf Nothing = none
+abbrev pub slot_of : Found → Option ℕ
+slot_of (Slot r) = some r
+slot_of Nothing = none
 
 -- The slot of an entry that was found.
-unfoldable pub entrySlot : Option Entry → Option ℕ
-entrySlot none = none
-entrySlot (some e) = some e.slot
+unfoldable pub entry_slot : Option Entry → Option ℕ
+entry_slot none = none
+entry_slot (some e) = some e.slot

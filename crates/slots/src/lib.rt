@@ -5,16 +5,16 @@ ghost use Rattle.std.specs.Prelude.{◌≡◌, true, ◌||◌, ℕ, length, get_
 ghost use Rattle.std.proofs.Math.ListN.{get_elem?};
 ghost use Rattle.lists.specs.Lists.{any, member};
 ghost use Rattle.sector.specs.Contents.{Table, Entry, Record, Header};
-ghost use Rattle.sector.specs.Entries.{forPage, givesSlot};
+ghost use Rattle.sector.specs.Entries.{for_page, gives_slot};
 ghost use Rattle.volume.specs.Places.{IsClient, IsFile, IsPage};
 ghost use Rattle.volume.specs.Views.{View};
 ghost use Rattle.volume.specs.Volumes.{view};
 ghost use Rattle.volume.specs.Sound.{sound};
-ghost use Rattle.volume.specs.WellFormed.{WellFormed, HasEntry, noEntry};
-ghost use Rattle.byteset.specs.Set.{hasByte};
-ghost use Rattle.rules.specs.Plans.{entryFor, freeSlots, startFor, triedFrom, slotFor};
-ghost use Rattle.rules.specs.Content.{decidedSlot};
-ghost use Rattle.slots.specs.Slots.{slotOf, entrySlot};
+ghost use Rattle.volume.specs.WellFormed.{WellFormed, HasEntry, no_entry};
+ghost use Rattle.byteset.specs.Set.{has_byte};
+ghost use Rattle.rules.specs.Plans.{entry_for, free_slots, start_for, tried_from, slot_for};
+ghost use Rattle.rules.specs.Content.{decided_slot};
+ghost use Rattle.slots.specs.Slots.{slot_of, entry_slot};
 
 use byteset::{add, lowest_missing};
 use sector::State;
@@ -29,7 +29,7 @@ pub enum Found {
 // Whether the entry with index i is for page p of file f.
 fn is_for_page(v: &[u8], k: u8, i: usize, f: u8, p: u8) -> bool
     requires { WellFormed v.now × HasEntry (view v.now) k i }
-    ensures { result ≡ forPage f p (get_or ((view v.now).records k).entries i noEntry) }
+    ensures { result ≡ for_page f p (get_or ((view v.now).records k).entries i no_entry) }
 {
     if volume::entry_file(v, k, i) != f {
         return false;
@@ -40,7 +40,7 @@ fn is_for_page(v: &[u8], k: u8, i: usize, f: u8, p: u8) -> bool
 // The slot that record k has for page p of file f.
 pub fn find_entry(v: &[u8], k: u8, f: u8, p: u8) -> Found
     requires { WellFormed v.now × IsClient (view v.now).table k }
-    ensures { slotOf result ≡ entrySlot (entryFor (view v.now) k f p) }
+    ensures { slot_of result ≡ entry_slot (entry_for (view v.now) k f p) }
 {
     let n = sector::wide(volume::entry_count(v, k));
     let mut i = 0;
@@ -56,7 +56,7 @@ pub fn find_entry(v: &[u8], k: u8, f: u8, p: u8) -> Found
 // Takes the slots in the map of file f.
 fn take_mapped(v: &[u8], f: u8, taken: &mut [u64; 4])
     requires { WellFormed v.now × IsFile (view v.now).table f × (length taken.old ≡ 4) }
-    ensures { ((y : ℕ) → hasByte taken.new y ≡ (hasByte taken.old y || member y ((view v.now).headers f).map)) × (length taken.new ≡ 4) }
+    ensures { ((y : ℕ) → has_byte taken.new y ≡ (has_byte taken.old y || member y ((view v.now).headers f).map)) × (length taken.new ≡ 4) }
 {
     let n = volume::pages(v, f);
     let mut p: u8 = 0;
@@ -69,7 +69,7 @@ fn take_mapped(v: &[u8], f: u8, taken: &mut [u64; 4])
 // Takes the slot that the entry with index i gives for file f, if it does.
 fn take_entry(v: &[u8], k: u8, i: usize, f: u8, taken: &mut [u64; 4])
     requires { WellFormed v.now × HasEntry (view v.now) k i × (length taken.old ≡ 4) }
-    ensures { ((y : ℕ) → hasByte taken.new y ≡ (givesSlot f y (get_or ((view v.now).records k).entries i noEntry) || hasByte taken.old y)) × (length taken.new ≡ 4) }
+    ensures { ((y : ℕ) → has_byte taken.new y ≡ (gives_slot f y (get_or ((view v.now).records k).entries i no_entry) || has_byte taken.old y)) × (length taken.new ≡ 4) }
 {
     if volume::entry_file(v, k, i) == f {
         add(taken, volume::entry_slot(v, k, i));
@@ -79,7 +79,7 @@ fn take_entry(v: &[u8], k: u8, i: usize, f: u8, taken: &mut [u64; 4])
 // Takes the slots that record k gives for file f.
 fn take_given(v: &[u8], k: u8, f: u8, taken: &mut [u64; 4])
     requires { WellFormed v.now × IsClient (view v.now).table k × (length taken.old ≡ 4) }
-    ensures { ((y : ℕ) → hasByte taken.new y ≡ (hasByte taken.old y || any (givesSlot f y) ((view v.now).records k).entries)) × (length taken.new ≡ 4) }
+    ensures { ((y : ℕ) → has_byte taken.new y ≡ (has_byte taken.old y || any (gives_slot f y) ((view v.now).records k).entries)) × (length taken.new ≡ 4) }
 {
     let n = sector::wide(volume::entry_count(v, k));
     let mut i = 0;
@@ -95,7 +95,7 @@ fn take_given(v: &[u8], k: u8, f: u8, taken: &mut [u64; 4])
 // round (`must-fail/lowest_slot`, `two_above`, `above_another_page`, `not_round`).
 pub fn free_slot(v: &[u8], k: u8, f: u8, p: u8) -> Found
     requires { WellFormed v.now × IsClient (view v.now).table k × IsPage (view v.now).table f p }
-    ensures { slotOf result ≡ get_elem? (triedFrom (startFor (view v.now) f p) (freeSlots (view v.now) k f)) 0 }
+    ensures { slot_of result ≡ get_elem? (tried_from (start_for (view v.now) f p) (free_slots (view v.now) k f)) 0 }
 {
     let mut taken = [0u64; 4];
     take_mapped(v, f, &mut taken);
@@ -117,7 +117,7 @@ pub fn free_slot(v: &[u8], k: u8, f: u8, p: u8) -> Found
 // (`must-fail/read_by_map_alone`).
 pub fn read_slot(v: &[u8], k: u8, f: u8, p: u8) -> u8
     requires { WellFormed v.now × IsClient (view v.now).table k × IsPage (view v.now).table f p }
-    ensures { result ≡ slotFor (view v.now) f p (entryFor (view v.now) k f p) }
+    ensures { result ≡ slot_for (view v.now) f p (entry_for (view v.now) k f p) }
 {
     let found = find_entry(v, k, f, p);
     match found {
@@ -131,7 +131,7 @@ pub fn read_slot(v: &[u8], k: u8, f: u8, p: u8) -> u8
 // (`must-fail/look_into_an_open_record`), or of one that the header doesn't name (`rules/must-fail/look_into_another_record`).
 pub fn decided_slot(v: &[u8], f: u8, p: u8) -> u8
     requires { (sound v.now ≡ true) × IsPage (view v.now).table f p }
-    ensures { result ≡ decidedSlot (view v.now) f p }
+    ensures { result ≡ decided_slot (view v.now) f p }
 {
     let k = volume::holder(v, f);
     if k == 0 {

@@ -14,199 +14,199 @@ use lib.ListN.{length}
 use Rattle.lists.specs.Lists.{all, every, from}
 use Rattle.sector.specs.Contents.{Bytes, Table}
 use Rattle.sector.specs.Sectors.{sector}
-use Rattle.sector.specs.Decoding.{sectorsIn, clientsIn, fileCountIn, headerSectorIn, decodeTable}
-use Rattle.lists.proofs.ListLaws.{and-left, and-right, and-both, all-at, every-from}
-use Rattle.lists.proofs.TestLaws.{iff, all-no, all-of, all-last, every-both, none, ◌also◌, final, ◌then◌}
-use Rattle.sector.proofs.CodecLaws.{decoded-files}
-use Rattle.volume.specs.Places.{clientNumbers, fileNumbers, fileAt, headerSector, endSector, Place, recordPlace, headerPlace}
-use Rattle.volume.specs.Lawful.{tableFits, recordFits, headerFits, lawful}
-use Rattle.volume.specs.Volumes.{Volume, tableOf, bytesAt, recordIn, headerIn, view}
-use Rattle.volume.specs.Sound.{encoded, canonical, sound, tableSoundIn}
-use Rattle.volume.proofs.PlaceLaws.{IsFile, is-client, is-file, end-low, file-ends}
-use Rattle.volume.proofs.LawfulLaws.{file-facts}
-use Rattle.sector.specs.Encoded.{isTableEncoding, isRecordEncoding, isHeaderEncoding}
-use Rattle.table_test.specs.Table.{tableSound}
-use Rattle.record_test.specs.Record.{recordSound, recordSoundIn}
-use Rattle.header_test.specs.Header.{headerSound}
+use Rattle.sector.specs.Decoding.{sectors_in, clients_in, file_count_in, header_sector_in, decode_table}
+use Rattle.lists.proofs.ListLaws.{and_left, and_right, and_both, all_at, every_from}
+use Rattle.lists.proofs.TestLaws.{iff, all_no, all_of, all_last, every_both, none, ◌also◌, final, ◌then◌}
+use Rattle.sector.proofs.CodecLaws.{decoded_files}
+use Rattle.volume.specs.Places.{client_numbers, file_numbers, file_at, header_sector, end_sector, Place, record_place, header_place}
+use Rattle.volume.specs.Lawful.{table_fits, record_fits, header_fits, lawful}
+use Rattle.volume.specs.Volumes.{Volume, table_of, bytes_at, record_in, header_in, view}
+use Rattle.volume.specs.Sound.{encoded, canonical, sound, table_sound_in}
+use Rattle.volume.proofs.PlaceLaws.{IsFile, is_client_lem, is_file_lem, end_low, file_ends}
+use Rattle.volume.proofs.LawfulLaws.{file_facts}
+use Rattle.sector.specs.Encoded.{is_table_encoding, is_record_encoding, is_header_encoding}
+use Rattle.table_test.specs.Table.{table_sound}
+use Rattle.record_test.specs.Record.{record_sound, record_sound_in}
+use Rattle.header_test.specs.Header.{header_sound}
 use Rattle.header_test.specs.Tested.{Tested}
-use Rattle.table_test.proofs.DecodingLaws.{file-is}
-use Rattle.table_test.proofs.TableLaws.{sectors-are, clients-are, facts, is-table, header-in}
-use Rattle.record_test.proofs.RecordLaws.{few-files, sound-count}
+use Rattle.table_test.proofs.DecodingLaws.{file_is}
+use Rattle.table_test.proofs.TableLaws.{sectors_are, clients_are, facts, is_table, header_in_lem}
+use Rattle.record_test.proofs.RecordLaws.{few_files, sound_count}
 
 -- The tests of the length and of sector 0, tb, in order.
-unfoldable pub tableTest : Volume → Bytes → Bool
-tableTest v tb = all (leb 256 (length v) ∷ tableSound tb ∷ eqb (length v) (256 * sectorsIn tb) ∷ [])
+unfoldable pub table_test : Volume → Bytes → Bool
+table_test v tb = all (leb 256 (length v) ∷ table_sound tb ∷ eqb (length v) (256 * sectors_in tb) ∷ [])
 
 -- The tests of a volume whose sector 0 is tb, in order.
-unfoldable pub soundTest : Volume → Bytes → Bool
-soundTest v tb = all
-    (tableSoundIn v
-    ∷ every (recordSoundIn (decodeTable tb) v) (from 1 (clientsIn tb))
-    ∷ every (headerSound (decodeTable tb) v) (from 1 (fileCountIn tb))
+unfoldable pub sound_test : Volume → Bytes → Bool
+sound_test v tb = all
+    (table_sound_in v
+    ∷ every (record_sound_in (decode_table tb) v) (from 1 (clients_in tb))
+    ∷ every (header_sound (decode_table tb) v) (from 1 (file_count_in tb))
     ∷ [])
 
 -- ------------------------------------------------------------------ what the tests of the table and of the length give
-module _ (v tb : Bytes) (ok : tableSound tb ≡ true) (sized : length v ≡ 256 * sectorsIn tb) where
+module _ (v tb : Bytes) (ok : table_sound tb ≡ true) (sized : length v ≡ 256 * sectors_in tb) where
   abbrev t : Table
-  t = decodeTable tb
+  t = decode_table tb
 
-  pub few-clients : clientsIn tb ≤ 4
-  few-clients = rw (clients-are tb) at (facts tb ok).four
+  pub few_clients : clients_in tb ≤ 4
+  few_clients = rw (clients_are tb) at (facts tb ok).four
 
-  ends : endSector t ≤ sectorsIn tb
-  ends = rw (sectors-are tb) at (facts tb ok).ends
+  ends : end_sector t ≤ sectors_in tb
+  ends = rw (sectors_are tb) at (facts tb ok).ends
 
-  pub records-inside : 256 * clientsIn tb + 256 ≤ length v
-  records-inside = omega (arith, end-low t, clients-are tb, ends, sized)
+  pub records_inside : 256 * clients_in tb + 256 ≤ length v
+  records_inside = omega (arith, end_low t, clients_are tb, ends, sized)
 
   -- With the records tested too, all that the tests of the headers ask for.
-  pub tested : length tb ≡ 256 → every (recordSoundIn t v) (from 1 (clientsIn tb)) ≡ true → Tested v tb
+  pub tested : length tb ≡ 256 → every (record_sound_in t v) (from 1 (clients_in tb)) ≡ true → Tested v tb
   tested len e = record {
     whole = len;
-    clients = few-clients;
-    files = few-files tb ok;
-    short = omega (arith, (facts tb ok).size, sectors-are tb, sized);
-    records = records-inside;
-    headers = λ f lo hi. omega (arith, header-is f lo hi, file-ends t f (is f lo hi), ends, sized);
-    header-is = header-is;
-    pages = λ f lo hi. rw (file-is tb f lo hi) at (file-facts (facts tb ok) f (is f lo hi)).few;
-    slots = λ f lo hi. rw (file-is tb f lo hi) at (file-facts (facts tb ok) f (is f lo hi)).room;
-    counts = λ k lo hi. sound-count t _ (every-from (recordSoundIn t v) (clientsIn tb) 1 e k lo (omega arith));
+    clients = few_clients;
+    files = few_files tb ok;
+    short = omega (arith, (facts tb ok).size, sectors_are tb, sized);
+    records = records_inside;
+    headers = λ f lo hi. omega (arith, header_is f lo hi, file_ends t f (is f lo hi), ends, sized);
+    header_is = header_is;
+    pages = λ f lo hi. rw (file_is tb f lo hi) at (file_facts (facts tb ok) f (is f lo hi)).few;
+    slots = λ f lo hi. rw (file_is tb f lo hi) at (file_facts (facts tb ok) f (is f lo hi)).room;
+    counts = λ k lo hi. sound_count t _ (every_from (record_sound_in t v) (clients_in tb) 1 e k lo (omega arith));
   }
     where
-      is : (f : ℕ) → 1 ≤ f → f ≤ fileCountIn tb → IsFile t f
-      is f lo hi = record { low = lo; high = rw (decoded-files tb) hi }
+      is : (f : ℕ) → 1 ≤ f → f ≤ file_count_in tb → IsFile t f
+      is f lo hi = record { low = lo; high = rw (decoded_files tb) hi }
 
-      header-is : (f : ℕ) → 1 ≤ f → f ≤ fileCountIn tb → headerSectorIn tb (f - 1) ≡ headerSector t f
-      header-is = header-in tb (is-table tb ok)
+      header_is : (f : ℕ) → 1 ≤ f → f ≤ file_count_in tb → header_sector_in tb (f - 1) ≡ header_sector t f
+      header_is = header_in_lem tb (is_table tb ok)
 
 -- ------------------------------------------------------------------ the length and sector 0
 -- What these tests have shown.
 pub record TableTested (v : Volume) (tb : Bytes) : Type 0 where
   pub long : 256 ≤ length v
-  pub table : tableSound tb ≡ true
-  pub size : length v ≡ 256 * sectorsIn tb
+  pub table : table_sound tb ≡ true
+  pub size : length v ≡ 256 * sectors_in tb
 
 module _ (v : Volume) (tb : Bytes) (q : tb ≡ sector v 0) where
-  -- `tableSoundIn`, about tb.
-  abbrev tableParts : Bool
-  tableParts = all (tableFits (decodeTable tb) ∷ eqb (length v) (256 * (decodeTable tb).sectors) ∷ isTableEncoding tb ∷ [])
+  -- `table_sound_in`, about tb.
+  abbrev table_parts : Bool
+  table_parts = all (table_fits (decode_table tb) ∷ eqb (length v) (256 * (decode_table tb).sectors) ∷ is_table_encoding tb ∷ [])
 
-  pub table-parts : tableSoundIn v ≡ tableParts
-  unfolding tableSoundIn tableOf
-  table-parts = rw q
+  pub table_parts_lem : table_sound_in v ≡ table_parts
+  unfolding table_sound_in table_of
+  table_parts_lem = rw q
 
-  pub table-tested : tableSoundIn v ≡ true → TableTested v tb
-  unfolding tableSound
-  table-tested e =
-      let p : tableParts ≡ true = sym table-parts ∙ e in
-      let table : tableSound tb ≡ true = and-both (isTableEncoding tb) _ (all-at _ 2 p) (all-at _ 0 p) in
-      let size : eqb (length v) (256 * sectorsIn tb) ≡ true = rw (← sectors-are tb) (all-at _ 1 p) in
-      let sized : length v ≡ 256 * sectorsIn tb = eqb-true _ _ size in
-      record { long = omega (arith, records-inside v tb table sized); table = table; size = sized }
+  pub table_tested : table_sound_in v ≡ true → TableTested v tb
+  unfolding table_sound
+  table_tested e =
+      let p : table_parts ≡ true = sym table_parts_lem ∙ e in
+      let table : table_sound tb ≡ true = and_both (is_table_encoding tb) _ (all_at _ 2 p) (all_at _ 0 p) in
+      let size : eqb (length v) (256 * sectors_in tb) ≡ true = rw (← sectors_are tb) (all_at _ 1 p) in
+      let sized : length v ≡ 256 * sectors_in tb = eqb-true _ _ size in
+      record { long = omega (arith, records_inside v tb table sized); table = table; size = sized }
 
-  tested-table : tableTest v tb ≡ true → tableSoundIn v ≡ true
-  unfolding tableTest tableSound
-  tested-table e =
-      let table : (isTableEncoding tb && tableFits (decodeTable tb)) ≡ true = all-at _ 1 e in
-      table-parts ∙ all-of (and-right (isTableEncoding tb) _ table also rw (sectors-are tb) (all-at _ 2 e) also and-left (isTableEncoding tb) _ table also none)
+  tested_table : table_test v tb ≡ true → table_sound_in v ≡ true
+  unfolding table_test table_sound
+  tested_table e =
+      let table : (is_table_encoding tb && table_fits (decode_table tb)) ≡ true = all_at _ 1 e in
+      table_parts_lem ∙ all_of (and_right (is_table_encoding tb) _ table also rw (sectors_are tb) (all_at _ 2 e) also and_left (is_table_encoding tb) _ table also none)
 
-  table-is : tableSoundIn v ≡ tableTest v tb
-  unfolding tableTest
-  table-is = iff _ _ (λ e. let k = table-tested e in all-of (le-leb 256 (length v) k.long also k.table also eq-eqb _ _ k.size also none)) tested-table
+  table_is : table_sound_in v ≡ table_test v tb
+  unfolding table_test
+  table_is = iff _ _ (λ e. let k = table_tested e in all_of (le-leb 256 (length v) k.long also k.table also eq-eqb _ _ k.size also none)) tested_table
 
   -- Test by test, as `table_is_sound_in` makes them.
-  pub table-no : tableSound tb ≡ false → tableSoundIn v ≡ false
-  unfolding tableTest
-  table-no e = table-is ∙ all-no _ 1 e
+  pub table_no : table_sound tb ≡ false → table_sound_in v ≡ false
+  unfolding table_test
+  table_no e = table_is ∙ all_no _ 1 e
 
-  pub table-last : 256 ≤ length v → tableSound tb ≡ true → eqb (length v) (256 * sectorsIn tb) ≡ tableSoundIn v
-  unfolding tableTest
-  table-last long table = sym (table-is ∙ all-last (le-leb 256 (length v) long then table then final))
+  pub table_last : 256 ≤ length v → table_sound tb ≡ true → eqb (length v) (256 * sectors_in tb) ≡ table_sound_in v
+  unfolding table_test
+  table_last long table = sym (table_is ∙ all_last (le-leb 256 (length v) long then table then final))
 
-pub short-no : (v : Volume) → length v < 256 → tableSoundIn v ≡ false
-unfolding tableTest
-short-no v h = table-is v (sector v 0) refl ∙ all-no _ 0 (lt-leb 256 (length v) h)
+pub short_no : (v : Volume) → length v < 256 → table_sound_in v ≡ false
+unfolding table_test
+short_no v h = table_is v (sector v 0) refl ∙ all_no _ 0 (lt-leb 256 (length v) h)
 
 -- ------------------------------------------------------------------ sound
 module _ (v : Volume) (tb : Bytes) (q : tb ≡ sector v 0) where
   abbrev t0 : Table
-  t0 = decodeTable tb
+  t0 = decode_table tb
 
   abbrev places : Place → Bytes
-  places = bytesAt t0 v
+  places = bytes_at t0 v
 
   -- The bytes of every record and of every header, and what they say.
-  abbrev recordBytes : Bool
-  recordBytes = every (λ k. isRecordEncoding (places (recordPlace k))) (clientNumbers t0)
+  abbrev record_bytes : Bool
+  record_bytes = every (λ k. is_record_encoding (places (record_place k))) (client_numbers t0)
 
-  abbrev recordNumbers : Bool
-  recordNumbers = every (λ k. recordFits t0 (recordIn t0 places k)) (clientNumbers t0)
+  abbrev record_numbers : Bool
+  record_numbers = every (λ k. record_fits t0 (record_in t0 places k)) (client_numbers t0)
 
-  abbrev headerBytes : Bool
-  headerBytes = every (λ f. isHeaderEncoding (fileAt t0 f) (places (headerPlace f))) (fileNumbers t0)
+  abbrev header_bytes : Bool
+  header_bytes = every (λ f. is_header_encoding (file_at t0 f) (places (header_place f))) (file_numbers t0)
 
-  abbrev headerNumbers : Bool
-  headerNumbers = every (λ f. headerFits (recordIn t0 places) t0 f (headerIn t0 places f)) (fileNumbers t0)
+  abbrev header_numbers : Bool
+  header_numbers = every (λ f. header_fits (record_in t0 places) t0 f (header_in t0 places f)) (file_numbers t0)
 
   -- `sound`, with its tests in this order.
   abbrev parts : Bool
   parts = all
-      (all (tableFits t0 ∷ recordNumbers ∷ headerNumbers ∷ [])
-      ∷ all (eqb (length v) (256 * t0.sectors) ∷ all (isTableEncoding tb ∷ recordBytes ∷ headerBytes ∷ []) ∷ [])
+      (all (table_fits t0 ∷ record_numbers ∷ header_numbers ∷ [])
+      ∷ all (eqb (length v) (256 * t0.sectors) ∷ all (is_table_encoding tb ∷ record_bytes ∷ header_bytes ∷ []) ∷ [])
       ∷ [])
 
-  parts-are : sound v ≡ parts
-  unfolding sound lawful view tableOf canonical encoded
-  parts-are = rw q
+  parts_are : sound v ≡ parts
+  unfolding sound lawful view table_of canonical encoded
+  parts_are = rw q
 
   -- The code tests bytes and numbers of a record together, and those of a header.
-  records-are : every (recordSoundIn t0 v) (from 1 (clientsIn tb)) ≡ (recordBytes && recordNumbers)
-  unfolding recordSound recordIn
-  records-are = rw (← clients-are tb) (every-both _ _ _ t0.clients 1 (λ k lo hi. rw (is-client t0 k lo (omega arith))))
+  records_are : every (record_sound_in t0 v) (from 1 (clients_in tb)) ≡ (record_bytes && record_numbers)
+  unfolding record_sound record_in
+  records_are = rw (← clients_are tb) (every_both _ _ _ t0.clients 1 (λ k lo hi. rw (is_client_lem t0 k lo (omega arith))))
 
-  headers-are : every (headerSound t0 v) (from 1 (fileCountIn tb)) ≡ (headerBytes && headerNumbers)
-  unfolding headerSound headerIn
-  headers-are =
-      rw (← decoded-files tb)
-      (every-both _ _ _ (length t0.files) 1 (λ f lo hi. rw (is-file t0 f (record { low = lo; high = omega arith }))))
+  headers_are : every (header_sound t0 v) (from 1 (file_count_in tb)) ≡ (header_bytes && header_numbers)
+  unfolding header_sound header_in
+  headers_are =
+      rw (← decoded_files tb)
+      (every_both _ _ _ (length t0.files) 1 (λ f lo hi. rw (is_file_lem t0 f (record { low = lo; high = omega arith }))))
 
-  sound-to : soundTest v tb ≡ true → parts ≡ true
-  unfolding soundTest
-  sound-to e =
-      let table : tableParts v tb q ≡ true = sym (table-parts v tb q) ∙ all-at _ 0 e in
-      let recs : (recordBytes && recordNumbers) ≡ true = sym records-are ∙ all-at _ 1 e in
-      let heads : (headerBytes && headerNumbers) ≡ true = sym headers-are ∙ all-at _ 2 e in
-      all-of
-      (all-of (all-at _ 0 table also and-right recordBytes _ recs also and-right headerBytes _ heads also none)
-      also all-of (all-at _ 1 table
-      also all-of (all-at _ 2 table also and-left recordBytes _ recs also and-left headerBytes _ heads also none) also none)
+  sound_to : sound_test v tb ≡ true → parts ≡ true
+  unfolding sound_test
+  sound_to e =
+      let table : table_parts v tb q ≡ true = sym (table_parts_lem v tb q) ∙ all_at _ 0 e in
+      let recs : (record_bytes && record_numbers) ≡ true = sym records_are ∙ all_at _ 1 e in
+      let heads : (header_bytes && header_numbers) ≡ true = sym headers_are ∙ all_at _ 2 e in
+      all_of
+      (all_of (all_at _ 0 table also and_right record_bytes _ recs also and_right header_bytes _ heads also none)
+      also all_of (all_at _ 1 table
+      also all_of (all_at _ 2 table also and_left record_bytes _ recs also and_left header_bytes _ heads also none) also none)
       also none)
 
-  sound-from : parts ≡ true → soundTest v tb ≡ true
-  unfolding soundTest
-  sound-from e =
-      let law : all (tableFits t0 ∷ recordNumbers ∷ headerNumbers ∷ []) ≡ true = all-at _ 0 e in
-      let sized : all (eqb (length v) (256 * t0.sectors) ∷ all (isTableEncoding tb ∷ recordBytes ∷ headerBytes ∷ []) ∷ []) ≡ true = all-at _ 1 e in
-      let bytes : all (isTableEncoding tb ∷ recordBytes ∷ headerBytes ∷ []) ≡ true = all-at _ 1 sized in
-      let table : tableParts v tb q ≡ true = all-of (all-at _ 0 law also all-at _ 0 sized also all-at _ 0 bytes also none) in
-      let recs : (recordBytes && recordNumbers) ≡ true = and-both recordBytes _ (all-at _ 1 bytes) (all-at _ 1 law) in
-      let heads : (headerBytes && headerNumbers) ≡ true = and-both headerBytes _ (all-at _ 2 bytes) (all-at _ 2 law) in
-      all-of (table-parts v tb q ∙ table also records-are ∙ recs also headers-are ∙ heads also none)
+  sound_from : parts ≡ true → sound_test v tb ≡ true
+  unfolding sound_test
+  sound_from e =
+      let law : all (table_fits t0 ∷ record_numbers ∷ header_numbers ∷ []) ≡ true = all_at _ 0 e in
+      let sized : all (eqb (length v) (256 * t0.sectors) ∷ all (is_table_encoding tb ∷ record_bytes ∷ header_bytes ∷ []) ∷ []) ≡ true = all_at _ 1 e in
+      let bytes : all (is_table_encoding tb ∷ record_bytes ∷ header_bytes ∷ []) ≡ true = all_at _ 1 sized in
+      let table : table_parts v tb q ≡ true = all_of (all_at _ 0 law also all_at _ 0 sized also all_at _ 0 bytes also none) in
+      let recs : (record_bytes && record_numbers) ≡ true = and_both record_bytes _ (all_at _ 1 bytes) (all_at _ 1 law) in
+      let heads : (header_bytes && header_numbers) ≡ true = and_both header_bytes _ (all_at _ 2 bytes) (all_at _ 2 law) in
+      all_of (table_parts_lem v tb q ∙ table also records_are ∙ recs also headers_are ∙ heads also none)
 
-  sound-is : sound v ≡ soundTest v tb
-  sound-is = parts-are ∙ iff _ _ sound-from sound-to
+  sound_is : sound v ≡ sound_test v tb
+  sound_is = parts_are ∙ iff _ _ sound_from sound_to
 
   -- ------------------------------------------------------------------ test by test, as `is_sound` makes them
-  pub records-no : every (recordSoundIn t0 v) (from 1 (clientsIn tb)) ≡ false → sound v ≡ false
-  unfolding soundTest
-  records-no e = sound-is ∙ all-no _ 1 e
+  pub records_no : every (record_sound_in t0 v) (from 1 (clients_in tb)) ≡ false → sound v ≡ false
+  unfolding sound_test
+  records_no e = sound_is ∙ all_no _ 1 e
 
-  pub sound-last : tableSoundIn v ≡ true → every (recordSoundIn t0 v) (from 1 (clientsIn tb)) ≡ true
-      → every (headerSound t0 v) (from 1 (fileCountIn tb)) ≡ sound v
-  unfolding soundTest
-  sound-last table recs = sym (sound-is ∙ all-last (table then recs then final))
+  pub sound_last : table_sound_in v ≡ true → every (record_sound_in t0 v) (from 1 (clients_in tb)) ≡ true
+      → every (header_sound t0 v) (from 1 (file_count_in tb)) ≡ sound v
+  unfolding sound_test
+  sound_last table recs = sym (sound_is ∙ all_last (table then recs then final))
 
-pub table-unsound : (v : Volume) → tableSoundIn v ≡ false → sound v ≡ false
-unfolding soundTest
-table-unsound v e = sound-is v (sector v 0) refl ∙ all-no _ 0 e
+pub table_unsound : (v : Volume) → table_sound_in v ≡ false → sound v ≡ false
+unfolding sound_test
+table_unsound v e = sound_is v (sector v 0) refl ∙ all_no _ 0 e

@@ -6,11 +6,11 @@
 
 ghost use Rattle.std.specs.Prelude.{◌≡◌, true, ◌+◌, ◌*◌, ◌≤◌, length};
 ghost use Rattle.lists.specs.Lists.{every, from};
-ghost use Rattle.sector.specs.Decoding.{fileCountIn, decodeTable};
-ghost use Rattle.volume.specs.Sound.{sound, tableSoundIn};
-ghost use Rattle.table_test.specs.Table.{tableSound};
-ghost use Rattle.record_test.specs.Record.{recordSoundIn};
-ghost use Rattle.header_test.specs.Header.{headerSound};
+ghost use Rattle.sector.specs.Decoding.{file_count_in, decode_table};
+ghost use Rattle.volume.specs.Sound.{sound, table_sound_in};
+ghost use Rattle.table_test.specs.Table.{table_sound};
+ghost use Rattle.record_test.specs.Record.{record_sound_in};
+ghost use Rattle.header_test.specs.Header.{header_sound};
 ghost use Rattle.header_test.specs.Tested.{Tested};
 
 use header_test::header_is_sound;
@@ -36,7 +36,7 @@ pub fn is_sound(v: &[u8]) -> bool
 // Whether the length of `v` and its sector 0 are those of a sound volume. Ruled out: `true` for an array that is longer than its
 // N sectors (`must-fail/longer_than_its_sectors`); `false` because of what another sector holds.
 pub fn table_is_sound_in(v: &[u8]) -> bool
-    ensures { result ≡ tableSoundIn v.now }
+    ensures { result ≡ table_sound_in v.now }
 {
     if v.len() < Sector::SIZE {
         return false;
@@ -50,8 +50,8 @@ pub fn table_is_sound_in(v: &[u8]) -> bool
 
 // Whether the records of clients 1 to `n` are sound.
 fn records_are_sound(v: &[u8], table: &[u8], n: usize) -> bool
-    requires { (length table.now ≡ 256) × (tableSound table.now ≡ true) × (n ≤ 4) × (256 * n + 256 ≤ length v.now) }
-    ensures { result ≡ every (recordSoundIn (decodeTable table.now) v.now) (from 1 n) }
+    requires { (length table.now ≡ 256) × (table_sound table.now ≡ true) × (n ≤ 4) × (256 * n + 256 ≤ length v.now) }
+    ensures { result ≡ every (record_sound_in (decode_table table.now) v.now) (from 1 n) }
 {
     let mut k = 1;
     while k <= n {
@@ -65,8 +65,8 @@ fn records_are_sound(v: &[u8], table: &[u8], n: usize) -> bool
 
 // Whether the headers of all `n` files are sound.
 fn headers_are_sound(v: &[u8], table: &[u8], n: usize) -> bool
-    requires { (Tested v.now table.now) × (n ≡ fileCountIn table.now) }
-    ensures { result ≡ every (headerSound (decodeTable table.now) v.now) (from 1 n) }
+    requires { (Tested v.now table.now) × (n ≡ file_count_in table.now) }
+    ensures { result ≡ every (header_sound (decode_table table.now) v.now) (from 1 n) }
 {
     let mut f = 1;
     while f <= n {

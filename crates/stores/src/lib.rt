@@ -4,12 +4,12 @@
 
 ghost use Rattle.std.specs.Prelude.{◌≡◌, false, [], ◌∷◌, ◌<◌, length};
 ghost use Rattle.sector.specs.Contents.{Record, Header};
-ghost use Rattle.sector.specs.Encoding.{encodeRecord, encodeHeader};
-ghost use Rattle.volume.specs.Places.{IsClient, IsFile, fileAt};
-ghost use Rattle.volume.specs.Views.{setRecord, setHeader, setSlot};
+ghost use Rattle.sector.specs.Encoding.{encode_record, encode_header};
+ghost use Rattle.volume.specs.Places.{IsClient, IsFile, file_at};
+ghost use Rattle.volume.specs.Views.{set_record, set_header, set_slot};
 ghost use Rattle.volume.specs.Volumes.{view};
 ghost use Rattle.volume.specs.WellFormed.{WellFormed};
-ghost use Rattle.stores.specs.Runs.{newRun, counted, UpdatesMade};
+ghost use Rattle.stores.specs.Runs.{new_run, counted, UpdatesMade};
 
 // A run of stores: how many it may make, how many it made, and whether it was to make one more.
 #[derive(Clone, Copy)]
@@ -22,7 +22,7 @@ pub struct Run {
 impl Run {
     // A run that has made no store yet.
     pub fn new(budget: u8) -> Self
-        ensures { result ≡ newRun budget }
+        ensures { result ≡ new_run budget }
     {
         Run {
             budget: budget,
@@ -56,8 +56,8 @@ fn count(run: Run) -> Run
 // Client k's record becomes the one that src encodes.
 pub fn put_record(v: &mut [u8], k: u8, src: &[u8], run: Run) -> Run
     requires { (run.crashed ≡ false → WellFormed v.old × IsClient (view v.old).table k) × (length src.now ≡ 256) }
-    ensures { (r : Record) → src.now ≡ encodeRecord r
-        → UpdatesMade v.old run (setRecord k r ∷ []) v.new result }
+    ensures { (r : Record) → src.now ≡ encode_record r
+        → UpdatesMade v.old run (set_record k r ∷ []) v.new result }
 {
     let next = count(run);
     if !next.crashed {
@@ -69,8 +69,8 @@ pub fn put_record(v: &mut [u8], k: u8, src: &[u8], run: Run) -> Run
 // File f's header becomes the one that src encodes.
 pub fn put_header(v: &mut [u8], f: u8, src: &[u8], run: Run) -> Run
     requires { (run.crashed ≡ false → WellFormed v.old × IsFile (view v.old).table f) × (length src.now ≡ 256) }
-    ensures { (h : Header) → src.now ≡ encodeHeader (fileAt (view v.old).table f) h
-        → UpdatesMade v.old run (setHeader f h ∷ []) v.new result }
+    ensures { (h : Header) → src.now ≡ encode_header (file_at (view v.old).table f) h
+        → UpdatesMade v.old run (set_header f h ∷ []) v.new result }
 {
     let next = count(run);
     if !next.crashed {
@@ -81,9 +81,9 @@ pub fn put_header(v: &mut [u8], f: u8, src: &[u8], run: Run) -> Run
 
 // Slot r of file f becomes src.
 pub fn put_slot(v: &mut [u8], f: u8, r: u8, src: &[u8], run: Run) -> Run
-    requires { (run.crashed ≡ false → WellFormed v.old × IsFile (view v.old).table f × (r < (fileAt (view v.old).table f).slots))
+    requires { (run.crashed ≡ false → WellFormed v.old × IsFile (view v.old).table f × (r < (file_at (view v.old).table f).slots))
         × (length src.now ≡ 256) }
-    ensures { UpdatesMade v.old run (setSlot f r src.now ∷ []) v.new result }
+    ensures { UpdatesMade v.old run (set_slot f r src.now ∷ []) v.new result }
 {
     let next = count(run);
     if !next.crashed {

@@ -6,27 +6,27 @@ use Prim.Native.Nat.{ℕ, ◌+◌, ◌-◌, ◌≤◌, ◌<◌}
 use native.Mathlib.Omega.{arith}
 use lib.ListN.{length, drop}
 use Rattle.sector.specs.Contents.{Bytes, File}
-use Rattle.sector.specs.Decoding.{fileCountIn, fileIn, countIn, mapIn, decodeTable, decodeRecord, decodeHeader}
-use Rattle.sector.proofs.CodecLaws.{decoded-files, decoded-file, decoded-count, decoded-map, decoded-slot}
-use Rattle.lists.proofs.TestLaws.{next-of, none-of}
-use Rattle.volume.specs.Places.{noFile, fileAt}
+use Rattle.sector.specs.Decoding.{file_count_in, file_in, count_in, map_in, decode_table, decode_record, decode_header}
+use Rattle.sector.proofs.CodecLaws.{decoded_files, decoded_file, decoded_count, decoded_map, decoded_slot}
+use Rattle.lists.proofs.TestLaws.{next_of, none_of}
+use Rattle.volume.specs.Places.{no_file, file_at}
 
 module _ (d : Bytes) where
-  pub next-file : (i : ℕ) → i < fileCountIn d → drop i (decodeTable d).files ≡ fileIn d i ∷ drop (i + 1) (decodeTable d).files
-  next-file i h = next-of (decodeTable d).files (fileCountIn d) i noFile (fileIn d i) (decoded-files d) h (decoded-file d i noFile h)
+  pub next_file : (i : ℕ) → i < file_count_in d → drop i (decode_table d).files ≡ file_in d i ∷ drop (i + 1) (decode_table d).files
+  next_file i h = next_of (decode_table d).files (file_count_in d) i no_file (file_in d i) (decoded_files d) h (decoded_file d i no_file h)
 
-  pub no-file : (i : ℕ) → fileCountIn d ≤ i → drop i (decodeTable d).files ≡ []
-  no-file i h = none-of (decodeTable d).files (fileCountIn d) i (decoded-files d) h
+  pub no_file_lem : (i : ℕ) → file_count_in d ≤ i → drop i (decode_table d).files ≡ []
+  no_file_lem i h = none_of (decode_table d).files (file_count_in d) i (decoded_files d) h
 
-  pub file-is : (f : ℕ) → 1 ≤ f → f ≤ fileCountIn d → fileAt (decodeTable d) f ≡ fileIn d (f - 1)
-  file-is f lo hi = decoded-file d (f - 1) noFile (omega arith)
+  pub file_is : (f : ℕ) → 1 ≤ f → f ≤ file_count_in d → file_at (decode_table d) f ≡ file_in d (f - 1)
+  file_is f lo hi = decoded_file d (f - 1) no_file (omega arith)
 
-  pub no-entry : (i : ℕ) → countIn d ≤ i → drop i (decodeRecord d).entries ≡ []
-  no-entry i h = none-of (decodeRecord d).entries (countIn d) i (decoded-count d) h
+  pub no_entry_lem : (i : ℕ) → count_in d ≤ i → drop i (decode_record d).entries ≡ []
+  no_entry_lem i h = none_of (decode_record d).entries (count_in d) i (decoded_count d) h
 
 module _ (x : File) (d : Bytes) (len : length d ≡ 256) (few : x.pages ≤ 120) where
-  pub next-slot : (p : ℕ) → p < x.pages → drop p (decodeHeader x d).map ≡ mapIn d p ∷ drop (p + 1) (decodeHeader x d).map
-  next-slot p h = next-of (decodeHeader x d).map x.pages p 0 (mapIn d p) (decoded-map x d len (omega arith)) h (decoded-slot x d p h)
+  pub next_slot : (p : ℕ) → p < x.pages → drop p (decode_header x d).map ≡ map_in d p ∷ drop (p + 1) (decode_header x d).map
+  next_slot p h = next_of (decode_header x d).map x.pages p 0 (map_in d p) (decoded_map x d len (omega arith)) h (decoded_slot x d p h)
 
-  pub no-slot : (p : ℕ) → x.pages ≤ p → drop p (decodeHeader x d).map ≡ []
-  no-slot p h = none-of (decodeHeader x d).map x.pages p (decoded-map x d len (omega arith)) h
+  pub no_slot : (p : ℕ) → x.pages ≤ p → drop p (decode_header x d).map ≡ []
+  no_slot p h = none_of (decode_header x d).map x.pages p (decoded_map x d len (omega arith)) h

@@ -2,9 +2,9 @@
 #![tactic(auto)]
 
 ghost use Rattle.std.specs.Prelude.{◌≡◌, ◌≤◌, length};
-ghost use Rattle.sector.specs.Layout.{entryLimit};
-ghost use Rattle.sector.specs.Decoding.{fileCountIn};
-ghost use Rattle.table_test.specs.Table.{countsFit, tableSound, filesSound};
+ghost use Rattle.sector.specs.Layout.{entry_limit};
+ghost use Rattle.sector.specs.Decoding.{file_count_in};
+ghost use Rattle.table_test.specs.Table.{counts_fit, table_sound, files_sound};
 
 use sector::{
     Limits, file_header, file_pages, file_slots, has_table_frame, table_clients, table_files,
@@ -15,7 +15,7 @@ use volume::file_fits;
 // Whether the table in sector 0 is sound.
 pub fn table_is_sound(d: &[u8]) -> bool
     requires { length d.now ≡ 256 }
-    ensures { result ≡ tableSound d.now }
+    ensures { result ≡ table_sound d.now }
 {
     if !counts_fit(d) {
         return false;
@@ -29,7 +29,7 @@ pub fn table_is_sound(d: &[u8]) -> bool
 // Whether there are not too many sectors, clients and files, and at least one client and one file.
 fn counts_fit(d: &[u8]) -> bool
     requires { length d.now ≡ 256 }
-    ensures { result ≡ countsFit d.now }
+    ensures { result ≡ counts_fit d.now }
 {
     let sectors = table_sectors(d);
     let clients = wide(table_clients(d));
@@ -42,8 +42,8 @@ fn counts_fit(d: &[u8]) -> bool
 // Whether each of the n files fits and has its header where the files before end, the first one in sector `first`, and the last
 // one ends at or before the end of the volume.
 fn files_are_sound(d: &[u8], n: usize, first: usize) -> bool
-    requires { (length d.now ≡ 256) × (n ≡ fileCountIn d.now) × (n ≤ entryLimit) × (first ≤ 256) }
-    ensures { result ≡ filesSound first d.now }
+    requires { (length d.now ≡ 256) × (n ≡ file_count_in d.now) × (n ≤ entry_limit) × (first ≤ 256) }
+    ensures { result ≡ files_sound first d.now }
 {
     let mut h = first;
     let mut i = 0;

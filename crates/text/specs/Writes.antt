@@ -9,8 +9,8 @@ pub record Wrote (b : Bytes) (at : ℕ) (d c : Bytes) (n : ℕ) : Type 0 where
   pub next : n ≡ at + length d
 
 -- The text stands at the front, and what is behind it is as it was.
-abbrev pub atFront : Bytes → Bytes → Bytes
-atFront text out = text ++ drop (length text) out
+abbrev pub at_front : Bytes → Bytes → Bytes
+at_front text out = text ++ drop (length text) out
 
 -- How many bytes are to be printed, and the bytes that have them at the front.
 pub record ToPrint : Type 0 where
@@ -18,9 +18,9 @@ pub record ToPrint : Type 0 where
   pub out : Bytes
 
 -- This text is to be printed.
-abbrev pub textFirst : Bytes → Bytes → ToPrint
-textFirst text out = record { count = length text; out = atFront text out }
+abbrev pub text_first : Bytes → Bytes → ToPrint
+text_first text out = record { count = length text; out = at_front text out }
 
 -- Nothing is.
-abbrev pub nothingFirst : Bytes → ToPrint
-nothingFirst out = record { count = 0; out = out }
+abbrev pub nothing_first : Bytes → ToPrint
+nothing_first out = record { count = 0; out = out }

@@ -2,7 +2,7 @@
 #![tactic(auto)]
 
 ghost use Rattle.std.specs.Prelude.{◌∷◌, ◌++◌, ◌+◌, ◌≤◌, length};
-ghost use Rattle.volume.specs.Listing.{decimal, stateWord};
+ghost use Rattle.volume.specs.Listing.{decimal, state_word};
 ghost use Rattle.text.specs.Writes.{Wrote};
 
 // The text is written at `at`.
@@ -49,8 +49,8 @@ pub fn put_field(out: &mut [u8], at: usize, text: &[u8], n: u8) -> usize
 
 // The word for a record's state is written, after a space.
 pub fn put_state(out: &mut [u8], at: usize, state: u8) -> usize
-    requires { at + 1 + length (stateWord state) ≤ length out.old }
-    ensures { Wrote out.old at (0x20 ∷ stateWord state) out.new result }
+    requires { at + 1 + length (state_word state) ≤ length out.old }
+    ensures { Wrote out.old at (0x20 ∷ state_word state) out.new result }
 {
     if state == 0 {
         return put(out, at, b" idle");

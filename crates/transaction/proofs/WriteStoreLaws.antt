@@ -9,37 +9,37 @@ use lib.ListN.{length}
 use Rattle.interface.specs.declared.Session.{Session}
 use Rattle.sector.specs.Contents.{Bytes, Entry, appended}
 use Rattle.volume.specs.Places.{IsClient}
-use Rattle.volume.specs.Views.{View, setRecord, setSlot}
+use Rattle.volume.specs.Views.{View, set_record, set_slot}
 use Rattle.volume.specs.Volumes.{Volume, view}
 use Rattle.volume.specs.WellFormed.{WellFormed}
-use Rattle.rules.specs.Plans.{write, entryFor, plan}
+use Rattle.rules.specs.Plans.{write, entry_for, plan}
 use Rattle.stores.specs.declared.Run.{Run}
 use Rattle.stores.specs.Runs.{UpdatesMade, AllMade}
-use Rattle.stores.proofs.MadeLaws.{all-table, all-one, made-same, made-more}
+use Rattle.stores.proofs.MadeLaws.{all_table, all_one, made_same, made_more}
 use Rattle.transaction.specs.Tested.{NewPage}
 
-pub again-plan : (a : View) (s : Session) (k f p slot : ℕ) (d : Bytes) (e : Entry) → entryFor a k f p ≡ some e → e.slot ≡ slot
-    → plan a s (write k f p d) ≡ setSlot f slot d ∷ []
+pub again_plan : (a : View) (s : Session) (k f p slot : ℕ) (d : Bytes) (e : Entry) → entry_for a k f p ≡ some e → e.slot ≡ slot
+    → plan a s (write k f p d) ≡ set_slot f slot d ∷ []
 unfolding plan
-again-plan a s k f p slot d e found same = rw (found, same)
+again_plan a s k f p slot d e found same = rw (found, same)
 
-new-plan : (a : View) (s : Session) (k f p slot : ℕ) (d : Bytes) → NewPage a k f p slot
-    → plan a s (write k f p d) ≡ (setSlot f slot d ∷ []) ++ (setRecord k (appended (a.records k) (record { file = f; page = p; slot = slot })) ∷ [])
+new_plan : (a : View) (s : Session) (k f p slot : ℕ) (d : Bytes) → NewPage a k f p slot
+    → plan a s (write k f p d) ≡ (set_slot f slot d ∷ []) ++ (set_record k (appended (a.records k) (record { file = f; page = p; slot = slot })) ∷ [])
 unfolding plan
-new-plan a s k f p slot d new = rw (new.absent, new.choice)
+new_plan a s k f p slot d new = rw (new.absent, new.choice)
 
 module _ {v : Volume} (formed : WellFormed v) {k f p slot : ℕ} (new : NewPage (view v) k f p slot) {d : Bytes} (size : length d ≡ 256)
-    {w : Volume} {r q : Run} (m : UpdatesMade v r (setSlot f slot d ∷ []) w q) where
-  written : q.crashed ≡ false → AllMade v (setSlot f slot d ∷ []) w
-  written = all-one _ formed (new.file, new.below, size) m
+    {w : Volume} {r q : Run} (m : UpdatesMade v r (set_slot f slot d ∷ []) w q) where
+  written : q.crashed ≡ false → AllMade v (set_slot f slot d ∷ []) w
+  written = all_one _ formed (new.file, new.below, size) m
 
   same : q.crashed ≡ false → (view w).records k ≡ (view v).records k
   same c = ap (λ (a : View). a.records k) (written c).seen
 
-  pub written-formed : q.crashed ≡ false → WellFormed w × IsClient (view w).table k × (length ((view w).records k).entries < 62)
-  written-formed c = ((written c).formed, rw (all-table _ (written c)) new.client, rw (same c) new.room)
+  pub written_formed : q.crashed ≡ false → WellFormed w × IsClient (view w).table k × (length ((view w).records k).entries < 62)
+  written_formed c = ((written c).formed, rw (all_table _ (written c)) new.client, rw (same c) new.room)
 
-  pub write-more : {u : Volume} {z : Run}
-      → UpdatesMade w q (setRecord k (appended ((view w).records k) (record { file = f; page = p; slot = slot })) ∷ []) u z
+  pub write_more : {u : Volume} {z : Run}
+      → UpdatesMade w q (set_record k (appended ((view w).records k) (record { file = f; page = p; slot = slot })) ∷ []) u z
       → (s : Session) → UpdatesMade v r (plan (view v) s (write k f p d)) u z
-  write-more n s = rw (new-plan (view v) s k f p slot d new) (made-more (λ c. all-table _ (written c)) m (made-same (λ c. rw (same c)) n))
+  write_more n s = rw (new_plan (view v) s k f p slot d new) (made_more (λ c. all_table _ (written c)) m (made_same (λ c. rw (same c)) n))

@@ -5,7 +5,7 @@ ghost use Rattle.volume.specs.Places.{IsClient};
 ghost use Rattle.volume.specs.Volumes.{view};
 ghost use Rattle.volume.specs.WellFormed.{WellFormed};
 ghost use Rattle.rules.specs.Plans.{abort, plan};
-ghost use Rattle.stores.specs.Runs.{newRun, UpdatesMade};
+ghost use Rattle.stores.specs.Runs.{new_run, UpdatesMade};
 
 use stores::Run;
 
@@ -13,7 +13,7 @@ use stores::Run;
 pub fn abort_stores(v: &mut [u8], k: u8, budget: u8) -> Run
     requires { WellFormed v.old × IsClient (view v.old).table k × (((view v.old).records k).state ≡ 1) }
     ensures { (s : Session)
-        → UpdatesMade v.old (newRun budget) (plan (view v.old) s (abort k)) v.new result }
+        → UpdatesMade v.old (new_run budget) (plan (view v.old) s (abort k)) v.new result }
 {
     let start = Run::new(budget);
     recovery::recover(v, k, start)

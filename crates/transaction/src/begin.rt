@@ -4,9 +4,9 @@ ghost use Rattle.interface.specs.declared.Session.{Session};
 ghost use Rattle.volume.specs.Places.{IsClient};
 ghost use Rattle.volume.specs.Volumes.{view};
 ghost use Rattle.volume.specs.WellFormed.{WellFormed};
-ghost use Rattle.rules.specs.Sessions.{isActive};
+ghost use Rattle.rules.specs.Sessions.{is_active};
 ghost use Rattle.rules.specs.Plans.{begin, plan};
-ghost use Rattle.stores.specs.Runs.{newRun, UpdatesMade};
+ghost use Rattle.stores.specs.Runs.{new_run, UpdatesMade};
 
 use sector::State;
 use stores::Run;
@@ -14,8 +14,8 @@ use stores::Run;
 // The stores of begin for client k: what an orphaned transaction left is recovered, then the record is opened.
 pub fn begin_stores(v: &mut [u8], k: u8, budget: u8) -> Run
     requires { WellFormed v.old × IsClient (view v.old).table k }
-    ensures { (s : Session) → isActive s k ≡ false
-        → UpdatesMade v.old (newRun budget) (plan (view v.old) s (begin k)) v.new result }
+    ensures { (s : Session) → is_active s k ≡ false
+        → UpdatesMade v.old (new_run budget) (plan (view v.old) s (begin k)) v.new result }
 {
     let start = Run::new(budget);
     let run = recovery::recover(v, k, start);

@@ -1,13 +1,13 @@
 // The stores of commit.
 ghost use Rattle.std.specs.Prelude.{[], ◌∷◌};
 ghost use Rattle.interface.specs.declared.Session.{Session};
-ghost use Rattle.sector.specs.Contents.{decidedRecord};
+ghost use Rattle.sector.specs.Contents.{decided_record};
 ghost use Rattle.volume.specs.Places.{IsClient};
-ghost use Rattle.volume.specs.Views.{setRecord};
+ghost use Rattle.volume.specs.Views.{set_record};
 ghost use Rattle.volume.specs.Volumes.{view};
 ghost use Rattle.volume.specs.WellFormed.{WellFormed};
 ghost use Rattle.rules.specs.Plans.{commit, plan};
-ghost use Rattle.stores.specs.Runs.{newRun, UpdatesMade};
+ghost use Rattle.stores.specs.Runs.{new_run, UpdatesMade};
 
 use sector::State;
 use stores::Run;
@@ -15,7 +15,7 @@ use stores::Run;
 // Client k's record is put decided.
 fn decide(v: &mut [u8], k: u8, run: Run) -> Run
     requires { WellFormed v.old × IsClient (view v.old).table k }
-    ensures { UpdatesMade v.old run (setRecord k (decidedRecord ((view v.old).records k)) ∷ []) v.new result }
+    ensures { UpdatesMade v.old run (set_record k (decided_record ((view v.old).records k)) ∷ []) v.new result }
 {
     let mut buf = sector::zeros();
     sector::load(&mut buf, volume::record(v, k));
@@ -27,7 +27,7 @@ fn decide(v: &mut [u8], k: u8, run: Run) -> Run
 pub fn commit_stores(v: &mut [u8], k: u8, budget: u8) -> Run
     requires { WellFormed v.old × IsClient (view v.old).table k }
     ensures { (s : Session)
-        → UpdatesMade v.old (newRun budget) (plan (view v.old) s (commit k)) v.new result }
+        → UpdatesMade v.old (new_run budget) (plan (view v.old) s (commit k)) v.new result }
 {
     let start = Run::new(budget);
     let run = decide(v, k, start);

@@ -2,21 +2,21 @@
 ghost use Rattle.std.specs.Prelude.{◌≡◌, true, false, [], ◌∷◌};
 ghost use Rattle.interface.specs.declared.Session.{Session};
 ghost use Rattle.volume.specs.Places.{IsFile};
-ghost use Rattle.volume.specs.Views.{setHeader};
-ghost use Rattle.volume.specs.Lawful.{headerFits};
+ghost use Rattle.volume.specs.Views.{set_header};
+ghost use Rattle.volume.specs.Lawful.{header_fits};
 ghost use Rattle.volume.specs.Volumes.{view};
 ghost use Rattle.volume.specs.WellFormed.{WellFormed};
-ghost use Rattle.rules.specs.Sessions.{isReading};
-ghost use Rattle.rules.specs.Plans.{openFile, openRead, plan};
-ghost use Rattle.rules.specs.Refusals.{heldByOther};
-ghost use Rattle.stores.specs.Runs.{newRun, UpdatesMade};
+ghost use Rattle.rules.specs.Sessions.{is_reading};
+ghost use Rattle.rules.specs.Plans.{open_file, open_read, plan};
+ghost use Rattle.rules.specs.Refusals.{held_by_other};
+ghost use Rattle.stores.specs.Runs.{new_run, UpdatesMade};
 
 use stores::Run;
 
 // File f's header is put with holder k and the map that it has.
 fn claim(v: &mut [u8], k: u8, f: u8, run: Run) -> Run
     requires { run.crashed ≡ false → WellFormed v.old × IsFile (view v.old).table f }
-    ensures { UpdatesMade v.old run (setHeader f (record { holder = k; map = ((view v.old).headers f).map }) ∷ [])
+    ensures { UpdatesMade v.old run (set_header f (record { holder = k; map = ((view v.old).headers f).map }) ∷ [])
         v.new result }
 {
     if run.crashed {
@@ -32,9 +32,9 @@ fn claim(v: &mut [u8], k: u8, f: u8, run: Run) -> Run
 // Another holder, which is orphaned then, is recovered; last, the header has holder k and the map after that recovery.
 pub fn open_stores(v: &mut [u8], k: u8, f: u8, budget: u8) -> Run
     requires { WellFormed v.old × IsFile (view v.old).table f
-        × (headerFits (view v.old).records (view v.old).table f ((view v.old).headers f) ≡ true) }
-    ensures { (s : Session) → heldByOther (view v.old) s k f ≡ false
-        → UpdatesMade v.old (newRun budget) (plan (view v.old) s (openFile k f)) v.new result }
+        × (header_fits (view v.old).records (view v.old).table f ((view v.old).headers f) ≡ true) }
+    ensures { (s : Session) → held_by_other (view v.old) s k f ≡ false
+        → UpdatesMade v.old (new_run budget) (plan (view v.old) s (open_file k f)) v.new result }
 {
     let start = Run::new(budget);
     let holder = volume::holder(v, f);
@@ -54,10 +54,10 @@ pub fn open_stores(v: &mut [u8], k: u8, f: u8, budget: u8) -> Run
 // (`must-fail/open_read_recovers_itself`); k named in the header.
 pub fn open_read_stores(v: &mut [u8], k: u8, f: u8, budget: u8) -> Run
     requires { WellFormed v.old × IsFile (view v.old).table f
-        × (headerFits (view v.old).records (view v.old).table f ((view v.old).headers f) ≡ true) }
-    ensures { (s : Session) → heldByOther (view v.old) s k f ≡ false
-        → (isReading s k f ≡ true → ((view v.old).headers f).holder ≡ 0)
-        → UpdatesMade v.old (newRun budget) (plan (view v.old) s (openRead k f)) v.new result }
+        × (header_fits (view v.old).records (view v.old).table f ((view v.old).headers f) ≡ true) }
+    ensures { (s : Session) → held_by_other (view v.old) s k f ≡ false
+        → (is_reading s k f ≡ true → ((view v.old).headers f).holder ≡ 0)
+        → UpdatesMade v.old (new_run budget) (plan (view v.old) s (open_read k f)) v.new result }
 {
     let start = Run::new(budget);
     let holder = volume::holder(v, f);

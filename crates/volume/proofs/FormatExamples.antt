@@ -6,27 +6,27 @@ use mathlib.Core.List.{List, [], ◌∷◌, ◌++◌, map}
 use Prim.Native.Nat.{ℕ}
 use lib.Dec.{eqb}
 use lib.ListN.{length, replicate, set}
-use Rattle.interface.specs.Answers.{FormatAnswer, formatDone, formatRefused}
+use Rattle.interface.specs.Answers.{FormatAnswer, format_done, format_refused}
 use Rattle.lists.specs.Lists.{all, first, every}
 use Rattle.sector.specs.Contents.{Bytes, Table}
 use Rattle.sector.specs.Sectors.{padded}
 use Rattle.volume.specs.Volumes.{Volume}
-use Rattle.sector.specs.Encoding.{fileBytes, encodeTable, entryBytes, encodeRecord, encodeHeader}
-use Rattle.volume.specs.Places.{sectorAfter}
-use Rattle.sector.specs.Shapes.{filesOf}
-use Rattle.volume.specs.Format.{lengthFits, shapeFits, endFits, tableFor, formatTests, repeated, newFiles, newVolume, Formatted, format}
-use Rattle.volume.proofs.PlaceExamples.{file, table, rec, header, smallTable}
+use Rattle.sector.specs.Encoding.{file_bytes, encode_table, entry_bytes, encode_record, encode_header}
+use Rattle.volume.specs.Places.{sector_after}
+use Rattle.sector.specs.Shapes.{files_of}
+use Rattle.volume.specs.Format.{length_fits, shape_fits, end_fits, table_for, format_tests, repeated, new_files, new_volume, Formatted, format}
+use Rattle.volume.proofs.PlaceExamples.{file, table, rec, header, small_table}
 
 -- ------------------------------------------------------------------ Arguments
 -- "a byte list of P, R pairs": a byte left over makes no file.
-pairs : map filesOf ([] ∷ (2 ∷ 3 ∷ 1 ∷ 4 ∷ []) ∷ (2 ∷ 3 ∷ 1 ∷ []) ∷ []) ≡ [] ∷ (file 2 3 ∷ file 1 4 ∷ []) ∷ (file 2 3 ∷ []) ∷ []
-unfolding filesOf
+pairs : map files_of ([] ∷ (2 ∷ 3 ∷ 1 ∷ 4 ∷ []) ∷ (2 ∷ 3 ∷ 1 ∷ []) ∷ []) ≡ [] ∷ (file 2 3 ∷ file 1 4 ∷ []) ∷ (file 2 3 ∷ []) ∷ []
+unfolding files_of
 pairs = refl
 
 -- N is counted in sectors.
-table-for : tableFor 3072 2 (2 ∷ 3 ∷ 1 ∷ 3 ∷ []) ≡ smallTable
-unfolding filesOf
-table-for = refl
+table_for_lem : table_for 3072 2 (2 ∷ 3 ∷ 1 ∷ 3 ∷ []) ≡ small_table
+unfolding files_of
+table_for_lem = refl
 
 -- ------------------------------------------------------------------ Refusals
 -- The refusal, or 0, of an array of so many bytes, T and the list.
@@ -61,43 +61,43 @@ rows =
     ∷ row 262400 0 [] 13 ∷ row 769 1 (1 ∷ 241 ∷ []) 13 ∷ row 768 1 (1 ∷ 241 ∷ []) 14
     ∷ []
 
-refusals-hold : every (λ x. eqb (first (formatTests x.bytes x.clients x.shape)) x.refusal) rows ≡ true
-unfolding all first sectorAfter filesOf repeated formatTests lengthFits shapeFits endFits
-refusals-hold = refl
+refusals_hold_lem : every (λ x. eqb (first (format_tests x.bytes x.clients x.shape)) x.refusal) rows ≡ true
+unfolding all first sector_after files_of repeated format_tests length_fits shape_fits end_fits
+refusals_hold_lem = refl
 
 -- ------------------------------------------------------------------ New volumes
 -- A table, the idle records, then of each file the header, "map[p] = p", held by nobody, and its zero slots; "all other sectors
 -- zero".
-new-volume : newVolume (table 9 2 (file 2 3 ∷ file 1 1 ∷ []))
-    ≡ encodeTable (table 9 2 (file 2 3 ∷ file 1 1 ∷ []))
-    ++ (encodeRecord (rec 0 []) ++ (encodeRecord (rec 0 [])
-    ++ (encodeHeader (file 2 3) (header 0 (0 ∷ 1 ∷ [])) ++ (replicate 768 0
-    ++ (encodeHeader (file 1 1) (header 0 (0 ∷ [])) ++ replicate 256 0)))))
-unfolding newVolume repeated newFiles sectorAfter encodeTable encodeRecord encodeHeader fileBytes entryBytes padded
-new-volume = refl
+new_volume_lem : new_volume (table 9 2 (file 2 3 ∷ file 1 1 ∷ []))
+    ≡ encode_table (table 9 2 (file 2 3 ∷ file 1 1 ∷ []))
+    ++ (encode_record (rec 0 []) ++ (encode_record (rec 0 [])
+    ++ (encode_header (file 2 3) (header 0 (0 ∷ 1 ∷ [])) ++ (replicate 768 0
+    ++ (encode_header (file 1 1) (header 0 (0 ∷ [])) ++ replicate 256 0)))))
+unfolding new_volume repeated new_files sector_after encode_table encode_record encode_header file_bytes entry_bytes padded
+new_volume_lem = refl
 
 -- One client and one file of one page in one slot, in as many sectors as they need.
-abbrev oneFile : Table
-oneFile = table 4 1 (file 1 1 ∷ [])
+abbrev one_file : Table
+one_file = table 4 1 (file 1 1 ∷ [])
 
 abbrev formatted : FormatAnswer → Volume → Formatted
 formatted a v = record { answer = a; volume = v }
 
 -- "answers done without a count". "all other sectors zero": of what the array had, nothing stays, and its length does.
-format-answers-done : map (λ v. format v 1 (1 ∷ 1 ∷ [])) (replicate 1024 0xEE ∷ replicate 1536 0xEE ∷ [])
-    ≡ map (formatted formatDone) (newVolume oneFile ∷ (set (newVolume oneFile) 2 6 ++ replicate 512 0) ∷ [])
-unfolding format formatTests lengthFits shapeFits endFits first all filesOf newVolume repeated newFiles sectorAfter encodeTable encodeRecord encodeHeader fileBytes entryBytes padded
-format-answers-done = refl
+format_answers_done : map (λ v. format v 1 (1 ∷ 1 ∷ [])) (replicate 1024 0xEE ∷ replicate 1536 0xEE ∷ [])
+    ≡ map (formatted format_done) (new_volume one_file ∷ (set (new_volume one_file) 2 6 ++ replicate 512 0) ∷ [])
+unfolding format format_tests length_fits shape_fits end_fits first all files_of new_volume repeated new_files sector_after encode_table encode_record encode_header file_bytes entry_bytes padded
+format_answers_done = refl
 
 -- The array's length, T and the list are tested. Refused: the number, and the array as it was.
-too-many-sectors : (v : Volume) → length v ≡ 262400 → format v 1 (1 ∷ 1 ∷ []) ≡ formatted (formatRefused 13) v
-unfolding first formatTests lengthFits shapeFits endFits format
-too-many-sectors v e = rw e refl
+too_many_sectors : (v : Volume) → length v ≡ 262400 → format v 1 (1 ∷ 1 ∷ []) ≡ formatted (format_refused 13) v
+unfolding first format_tests length_fits shape_fits end_fits format
+too_many_sectors v e = rw e refl
 
-too-many-clients : (v : Volume) → length v ≡ 1024 → format v 5 (1 ∷ 1 ∷ []) ≡ formatted (formatRefused 14) v
-unfolding first all formatTests lengthFits shapeFits endFits format
-too-many-clients v e = rw e refl
+too_many_clients : (v : Volume) → length v ≡ 1024 → format v 5 (1 ∷ 1 ∷ []) ≡ formatted (format_refused 14) v
+unfolding first all format_tests length_fits shape_fits end_fits format
+too_many_clients v e = rw e refl
 
-too-many-slots : (v : Volume) → length v ≡ 1024 → format v 1 (1 ∷ 2 ∷ []) ≡ formatted (formatRefused 15) v
-unfolding first all formatTests lengthFits shapeFits endFits filesOf sectorAfter format
-too-many-slots v e = rw e refl
+too_many_slots : (v : Volume) → length v ≡ 1024 → format v 1 (1 ∷ 2 ∷ []) ≡ formatted (format_refused 15) v
+unfolding first all format_tests length_fits shape_fits end_fits files_of sector_after format
+too_many_slots v e = rw e refl

@@ -7,116 +7,116 @@ use Prim.Native.Nat.{ℕ, zero, suc, ◌*◌, ◌≤◌}
 use borrow.Author.Tests.{eqb-true, eq-eqb}
 use lib.ListN.{length, take}
 use Rattle.sector.specs.Contents.{Table, Record, Header}
-use Rattle.sector.specs.Encoding.{encodeTable, encodeRecord, encodeHeader}
-use Rattle.lists.proofs.ListLaws.{all-nil, all-cons, all-at, same-equal, same-refl}
-use Rattle.lists.proofs.CaseLaws.{if-equal}
-use Rattle.volume.specs.Places.{IsFile, fileAt, recordPlace, headerPlace, slotPlace, tablePlace}
-use Rattle.volume.specs.Views.{View, Update, setRecord, setHeader, setSlot, changed, changedBy}
-use Rattle.volume.specs.Lawful.{tableFits, recordFits}
-use Rattle.volume.specs.Volumes.{Volume, tableOf, bytesAt, view}
-use Rattle.sector.specs.Encoded.{isRecordEncoding, isHeaderEncoding}
-use Rattle.volume.specs.Sound.{canonical, sound, tableSoundIn}
-use Rattle.volume.specs.Stores.{cutAt, allStores}
+use Rattle.sector.specs.Encoding.{encode_table, encode_record, encode_header}
+use Rattle.lists.proofs.ListLaws.{all_nil, all_cons, all_at, same_equal, same_refl}
+use Rattle.lists.proofs.CaseLaws.{if_equal}
+use Rattle.volume.specs.Places.{IsFile, file_at, record_place, header_place, slot_place, table_place}
+use Rattle.volume.specs.Views.{View, Update, set_record, set_header, set_slot, changed, changed_by}
+use Rattle.volume.specs.Lawful.{table_fits, record_fits}
+use Rattle.volume.specs.Volumes.{Volume, table_of, bytes_at, view}
+use Rattle.sector.specs.Encoded.{is_record_encoding, is_header_encoding}
+use Rattle.volume.specs.Sound.{canonical, sound, table_sound_in}
+use Rattle.volume.specs.Stores.{cut_at, all_stores}
 use Rattle.volume.specs.WellFormed.{TableFormed, WellFormed}
 use Rattle.volume.proofs.ViewLaws.{Placed}
-use Rattle.volume.proofs.CanonicalLaws.{Encoded, encoded-facts, record-encoding, header-encoding}
-use Rattle.volume.proofs.StoreLaws.{Shaped, AllPlaced, Held, held-view, cut-prefix}
-use Rattle.volume.proofs.AccessLaws.{record-is, header-is}
-use Rattle.volume.proofs.LawfulLaws.{Lawful, table-facts, table-fits, lawful-facts}
-use Rattle.volume.proofs.AlongLaws.{changed-table}
+use Rattle.volume.proofs.CanonicalLaws.{Encoded, encoded_facts, record_encoding, header_encoding}
+use Rattle.volume.proofs.StoreLaws.{Shaped, AllPlaced, Held, held_view, cut_prefix}
+use Rattle.volume.proofs.AccessLaws.{record_is, header_is}
+use Rattle.volume.proofs.LawfulLaws.{Lawful, table_facts, table_fits_lem, lawful_facts}
+use Rattle.volume.proofs.AlongLaws.{changed_table}
 
 -- What the view of a well-formed volume has, as far as the table t asks.
 pub record Fitting (t : Table) (a : View) : Type 0 where
-  pub table : tableFits t ≡ true
-  pub records : (k : ℕ) → 1 ≤ k → k ≤ t.clients → recordFits t (a.records k) ≡ true
-  pub maps : (f : ℕ) → 1 ≤ f → f ≤ length t.files → length (a.headers f).map ≡ (fileAt t f).pages
+  pub table : table_fits t ≡ true
+  pub records : (k : ℕ) → 1 ≤ k → k ≤ t.clients → record_fits t (a.records k) ≡ true
+  pub maps : (f : ℕ) → 1 ≤ f → f ≤ length t.files → length (a.headers f).map ≡ (file_at t f).pages
 
-pub lawful-fitting : {t : Table} {a : View} → Lawful t a → Fitting t a
-lawful-fitting l = record {
-  table = table-fits l.table;
+pub lawful_fitting : {t : Table} {a : View} → Lawful t a → Fitting t a
+lawful_fitting l = record {
+  table = table_fits_lem l.table;
   records = l.records;
   maps = λ f lo hi. (l.headers f (record { low = lo; high = hi })).map.size;
 }
 
-fitting-changed : {t : Table} {a : View} → Fitting t a → (x : Update) → Placed t x → Fitting t (changed a x)
-fitting-changed {t} {a} h (setRecord k r) p = record {
+fitting_changed : {t : Table} {a : View} → Fitting t a → (x : Update) → Placed t x → Fitting t (changed a x)
+fitting_changed {t} {a} h (set_record k r) p = record {
   table = h.table;
-  records = λ j lo hi. if-equal (λ (q : Record). recordFits t q ≡ true) j k r (a.records j) (λ e. p.2) (λ n. h.records j lo hi);
+  records = λ j lo hi. if_equal (λ (q : Record). record_fits t q ≡ true) j k r (a.records j) (λ e. p.2) (λ n. h.records j lo hi);
   maps = h.maps;
 }
-fitting-changed {t} {a} h (setHeader f x) p = record {
+fitting_changed {t} {a} h (set_header f x) p = record {
   table = h.table;
   records = h.records;
-  maps = λ g lo hi. if-equal (λ (y : Header). length y.map ≡ (fileAt t g).pages) g f x (a.headers g) (λ e. rw e p.1) (λ n. h.maps g lo hi);
+  maps = λ g lo hi. if_equal (λ (y : Header). length y.map ≡ (file_at t g).pages) g f x (a.headers g) (λ e. rw e p.1) (λ n. h.maps g lo hi);
 }
-fitting-changed h (setSlot f r d) p = record { table = h.table; records = h.records; maps = h.maps }
+fitting_changed h (set_slot f r d) p = record { table = h.table; records = h.records; maps = h.maps }
 
-fitting-prefix : {t : Table} (xs : List Update) {a : View} → Fitting t a → AllPlaced t xs → (n : ℕ) → Fitting t (changedBy a (take n xs))
-fitting-prefix xs h p zero = h
-fitting-prefix [] h p (suc n) = h
-fitting-prefix (x ∷ xs) h p (suc n) = fitting-prefix xs (fitting-changed h x p.0) p.1 n
+fitting_prefix : {t : Table} (xs : List Update) {a : View} → Fitting t a → AllPlaced t xs → (n : ℕ) → Fitting t (changed_by a (take n xs))
+fitting_prefix xs h p zero = h
+fitting_prefix [] h p (suc n) = h
+fitting_prefix (x ∷ xs) h p (suc n) = fitting_prefix xs (fitting_changed h x p.0) p.1 n
 
-pub formed-by : (v : Volume) → Shaped (view v).table v → Encoded (view v).table (bytesAt (view v).table v) → Fitting (view v).table (view v)
+pub formed_by : (v : Volume) → Shaped (view v).table v → Encoded (view v).table (bytes_at (view v).table v) → Fitting (view v).table (view v)
     → WellFormed v
-formed-by v shaped codes fit = record {
-  tabled = record { shaped = shaped; fits = fit.table; table = same-equal _ _ (codes tablePlace tt) };
-  record-bytes = λ k lo hi. same-equal _ _ (codes (recordPlace k) (lo, hi)) ∙ ap encodeRecord (sym (record-is v k lo hi));
-  record-fits = fit.records;
-  header-bytes = λ f lo hi.
+formed_by v shaped codes fit = record {
+  tabled = record { shaped = shaped; fits = fit.table; table = same_equal _ _ (codes table_place tt) };
+  record_bytes = λ k lo hi. same_equal _ _ (codes (record_place k) (lo, hi)) ∙ ap encode_record (sym (record_is v k lo hi));
+  record_fits = fit.records;
+  header_bytes = λ f lo hi.
       let i : IsFile (view v).table f = record { low = lo; high = hi } in
-      same-equal _ _ (codes (headerPlace f) i) ∙ ap (encodeHeader (fileAt (view v).table f)) (sym (header-is v f i));
-  map-size = fit.maps;
+      same_equal _ _ (codes (header_place f) i) ∙ ap (encode_header (file_at (view v).table f)) (sym (header_is v f i));
+  map_size = fit.maps;
 }
 
 -- ------------------------------------------------------------------ a sound volume
-pub sound-formed : (v : Volume) → sound v ≡ true → WellFormed v
+pub sound_formed : (v : Volume) → sound v ≡ true → WellFormed v
 unfolding sound canonical view
-sound-formed v ok =
-    let l : Lawful (tableOf v) (view v) = lawful-facts (view v) (all-at _ 0 ok) in
-    formed-by v (record { size = eqb-true _ _ (all-at _ 0 (all-at _ 1 ok)); ends = l.table.ends })
-    (encoded-facts (tableOf v) (bytesAt (tableOf v) v) (all-at _ 1 (all-at _ 1 ok))) (lawful-fitting l)
+sound_formed v ok =
+    let l : Lawful (table_of v) (view v) = lawful_facts (view v) (all_at _ 0 ok) in
+    formed_by v (record { size = eqb-true _ _ (all_at _ 0 (all_at _ 1 ok)); ends = l.table.ends })
+    (encoded_facts (table_of v) (bytes_at (table_of v) v) (all_at _ 1 (all_at _ 1 ok))) (lawful_fitting l)
 
 -- ------------------------------------------------------------------ a sound table
 module _ (v : Volume) where
-  pub table-formed : tableSoundIn v ≡ true → TableFormed v
-  unfolding tableSoundIn view
-  table-formed ok =
-      let size : length v ≡ 256 * (tableOf v).sectors = eqb-true _ _ (all-at _ 1 ok) in
+  pub table_formed : table_sound_in v ≡ true → TableFormed v
+  unfolding table_sound_in view
+  table_formed ok =
+      let size : length v ≡ 256 * (table_of v).sectors = eqb-true _ _ (all_at _ 1 ok) in
       record {
-        shaped = record { size = size; ends = (table-facts (all-at _ 0 ok)).ends };
-        fits = all-at _ 0 ok;
-        table = same-equal _ _ (all-at _ 2 ok);
+        shaped = record { size = size; ends = (table_facts (all_at _ 0 ok)).ends };
+        fits = all_at _ 0 ok;
+        table = same_equal _ _ (all_at _ 2 ok);
       }
 
-  pub formed-table : TableFormed v → tableSoundIn v ≡ true
-  unfolding tableSoundIn view
-  formed-table f = all-cons _ f.fits (all-cons _ (eq-eqb _ _ f.shaped.size) (all-cons _ (rw f.table (same-refl (encodeTable (tableOf v)))) all-nil))
+  pub formed_table : TableFormed v → table_sound_in v ≡ true
+  unfolding table_sound_in view
+  formed_table f = all_cons _ f.fits (all_cons _ (eq-eqb _ _ f.shaped.size) (all_cons _ (rw f.table (same_refl (encode_table (table_of v)))) all_nil))
 
 -- ------------------------------------------------------------------ after stores
 module _ (v : Volume) (formed : WellFormed v) where
-  pub formed-shaped : Shaped (view v).table v
-  formed-shaped = formed.tabled.shaped
+  pub formed_shaped : Shaped (view v).table v
+  formed_shaped = formed.tabled.shaped
 
-  pub formed-codes : Encoded (view v).table (bytesAt (view v).table v)
-  formed-codes tablePlace e = rw formed.tabled.table (same-refl (encodeTable (view v).table))
-  formed-codes (recordPlace k) e = ap isRecordEncoding (formed.record-bytes k e.0 e.1) ∙ record-encoding ((view v).records k)
-  formed-codes (headerPlace f) i =
-      ap (isHeaderEncoding (fileAt (view v).table f)) (formed.header-bytes f i.low i.high)
-      ∙ header-encoding (view v).table f ((view v).headers f) (formed.map-size f i.low i.high)
-  formed-codes (slotPlace f r) e = refl
+  pub formed_codes : Encoded (view v).table (bytes_at (view v).table v)
+  formed_codes table_place e = rw formed.tabled.table (same_refl (encode_table (view v).table))
+  formed_codes (record_place k) e = ap is_record_encoding (formed.record_bytes k e.0 e.1) ∙ record_encoding ((view v).records k)
+  formed_codes (header_place f) i =
+      ap (is_header_encoding (file_at (view v).table f)) (formed.header_bytes f i.low i.high)
+      ∙ header_encoding (view v).table f ((view v).headers f) (formed.map_size f i.low i.high)
+  formed_codes (slot_place f r) e = refl
 
   module _ (xs : List Update) (placed : AllPlaced (view v).table xs) (n : ℕ) where
-    held : Held (view v).table v (cutAt v (allStores (view v).table xs) n) (changedBy (view v) (take n xs))
+    held : Held (view v).table v (cut_at v (all_stores (view v).table xs) n) (changed_by (view v) (take n xs))
     unfolding view
-    held = cut-prefix (tableOf v) xs v formed-shaped placed n
+    held = cut_prefix (table_of v) xs v formed_shaped placed n
 
-    pub formed-view : view (cutAt v (allStores (view v).table xs) n) ≡ changedBy (view v) (take n xs)
-    formed-view = held-view held
+    pub formed_view : view (cut_at v (all_stores (view v).table xs) n) ≡ changed_by (view v) (take n xs)
+    formed_view = held_view held
 
-    pub formed-cut : WellFormed (cutAt v (allStores (view v).table xs) n)
-    formed-cut =
-        let w : Volume = cutAt v (allStores (view v).table xs) n in
-        let table : (view w).table ≡ (view v).table = ap (λ (a : View). a.table) formed-view ∙ changed-table (take n xs) (view v) in
-        let first : Fitting (view v).table (view v) = record { table = formed.tabled.fits; records = formed.record-fits; maps = formed.map-size } in
-        formed-by w (rw table held.shaped) (rw table (held.codes formed-codes)) (subst (λ (u : Table). Fitting u (view w)) (sym table)
-        (subst (Fitting (view v).table) (sym formed-view) (fitting-prefix xs first placed n)))
+    pub formed_cut : WellFormed (cut_at v (all_stores (view v).table xs) n)
+    formed_cut =
+        let w : Volume = cut_at v (all_stores (view v).table xs) n in
+        let table : (view w).table ≡ (view v).table = ap (λ (a : View). a.table) formed_view ∙ changed_table (take n xs) (view v) in
+        let first : Fitting (view v).table (view v) = record { table = formed.tabled.fits; records = formed.record_fits; maps = formed.map_size } in
+        formed_by w (rw table held.shaped) (rw table (held.codes formed_codes)) (subst (λ (u : Table). Fitting u (view w)) (sym table)
+        (subst (Fitting (view v).table) (sym formed_view) (fitting_prefix xs first placed n)))

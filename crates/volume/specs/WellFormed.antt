@@ -2,22 +2,22 @@
 -- every control sector is the encoding of what the view has for it.
 use Rattle.std.specs.Prelude.{◌≡◌, true, ℕ, ◌*◌, ◌≤◌, ◌<◌, length}
 use Rattle.sector.specs.Contents.{Table, Entry}
-use Rattle.sector.specs.Encoding.{encodeTable, encodeRecord, encodeHeader}
-use Rattle.volume.specs.Places.{IsClient, fileAt, endSector, tablePlace, recordPlace, headerPlace}
+use Rattle.sector.specs.Encoding.{encode_table, encode_record, encode_header}
+use Rattle.volume.specs.Places.{IsClient, file_at, end_sector, table_place, record_place, header_place}
 use Rattle.volume.specs.Views.{View}
-use Rattle.volume.specs.Lawful.{tableFits, recordFits}
-use Rattle.volume.specs.Volumes.{Volume, bytesAt, view}
+use Rattle.volume.specs.Lawful.{table_fits, record_fits}
+use Rattle.volume.specs.Volumes.{Volume, bytes_at, view}
 
 -- The volume has the table's sectors, and room for all its places.
 pub record Shaped (t : Table) (v : Volume) : Type 0 where
   pub size : length v ≡ 256 * t.sectors
-  pub ends : endSector t ≤ t.sectors
+  pub ends : end_sector t ≤ t.sectors
 
 -- Of the volume v, whose view is a: its length and its table.
 pub record TableFormedBy (a : View) (v : Volume) : Type 0 where
   pub shaped : Shaped a.table v
-  pub fits : tableFits a.table ≡ true
-  pub table : bytesAt a.table v tablePlace ≡ encodeTable a.table
+  pub fits : table_fits a.table ≡ true
+  pub table : bytes_at a.table v table_place ≡ encode_table a.table
 
 abbrev pub TableFormed : Volume → Type 0
 TableFormed v = TableFormedBy (view v) v
@@ -25,11 +25,11 @@ TableFormed v = TableFormedBy (view v) v
 -- All of it.
 pub record WellFormedBy (a : View) (v : Volume) : Type 0 where
   pub tabled : TableFormedBy a v
-  pub record-bytes : (k : ℕ) → 1 ≤ k → k ≤ a.table.clients → bytesAt a.table v (recordPlace k) ≡ encodeRecord (a.records k)
-  pub record-fits : (k : ℕ) → 1 ≤ k → k ≤ a.table.clients → recordFits a.table (a.records k) ≡ true
-  pub header-bytes : (f : ℕ) → 1 ≤ f → f ≤ length a.table.files
-      → bytesAt a.table v (headerPlace f) ≡ encodeHeader (fileAt a.table f) (a.headers f)
-  pub map-size : (f : ℕ) → 1 ≤ f → f ≤ length a.table.files → length (a.headers f).map ≡ (fileAt a.table f).pages
+  pub record_bytes : (k : ℕ) → 1 ≤ k → k ≤ a.table.clients → bytes_at a.table v (record_place k) ≡ encode_record (a.records k)
+  pub record_fits : (k : ℕ) → 1 ≤ k → k ≤ a.table.clients → record_fits a.table (a.records k) ≡ true
+  pub header_bytes : (f : ℕ) → 1 ≤ f → f ≤ length a.table.files
+      → bytes_at a.table v (header_place f) ≡ encode_header (file_at a.table f) (a.headers f)
+  pub map_size : (f : ℕ) → 1 ≤ f → f ≤ length a.table.files → length (a.headers f).map ≡ (file_at a.table f).pages
 
 abbrev pub WellFormed : Volume → Type 0
 WellFormed v = WellFormedBy (view v) v
@@ -40,5 +40,5 @@ pub record HasEntry (a : View) (k i : ℕ) : Type 0 where
   pub below : i < length (a.records k).entries
 
 -- What stands for an entry that there isn't.
-abbrev pub noEntry : Entry
-noEntry = record { file = 0; page = 0; slot = 0 }
+abbrev pub no_entry : Entry
+no_entry = record { file = 0; page = 0; slot = 0 }

@@ -2,17 +2,17 @@
 // place: `table`, `header` and `record` alone lend a control sector. For the table, the number of files and a header's bytes it is
 // enough that the length and the table were found sound.
 ghost use Rattle.std.specs.Prelude.{◌≡◌, ◌≤◌, ◌<◌, length, get_or};
-ghost use Rattle.sector.specs.Layout.{sectorLimit, entryLimit};
+ghost use Rattle.sector.specs.Layout.{sector_limit, entry_limit};
 ghost use Rattle.sector.specs.Contents.{File, Table, Entry, Record, Header};
-ghost use Rattle.volume.specs.Places.{IsClient, IsFile, IsPage, fileAt, headerSector, tablePlace, recordPlace, headerPlace};
+ghost use Rattle.volume.specs.Places.{IsClient, IsFile, IsPage, file_at, header_sector, table_place, record_place, header_place};
 ghost use Rattle.volume.specs.Views.{View};
-ghost use Rattle.volume.specs.Volumes.{bytesAt, view};
-ghost use Rattle.volume.specs.WellFormed.{TableFormed, WellFormed, HasEntry, noEntry};
+ghost use Rattle.volume.specs.Volumes.{bytes_at, view};
+ghost use Rattle.volume.specs.WellFormed.{TableFormed, WellFormed, HasEntry, no_entry};
 
 // The table's bytes.
 pub fn table(v: &[u8]) -> &[u8]
     requires { TableFormed v.now }
-    ensures { (result.now ≡ bytesAt (view v.now).table v.now tablePlace) × (length result.now ≡ 256) }
+    ensures { (result.now ≡ bytes_at (view v.now).table v.now table_place) × (length result.now ≡ 256) }
 {
     sector::part(v, 0)
 }
@@ -36,7 +36,7 @@ pub fn files(v: &[u8]) -> u8
 // The pages of file f.
 pub fn pages(v: &[u8], f: u8) -> u8
     requires { WellFormed v.now × IsFile (view v.now).table f }
-    ensures { result ≡ (fileAt (view v.now).table f).pages }
+    ensures { result ≡ (file_at (view v.now).table f).pages }
 {
     let i = sector::wide(f) - 1;
     sector::file_pages(table(v), i)
@@ -45,7 +45,7 @@ pub fn pages(v: &[u8], f: u8) -> u8
 // The slots of file f.
 pub fn slots(v: &[u8], f: u8) -> u8
     requires { WellFormed v.now × IsFile (view v.now).table f }
-    ensures { result ≡ (fileAt (view v.now).table f).slots }
+    ensures { result ≡ (file_at (view v.now).table f).slots }
 {
     let i = sector::wide(f) - 1;
     sector::file_slots(table(v), i)
@@ -54,7 +54,7 @@ pub fn slots(v: &[u8], f: u8) -> u8
 // The sector of file f's header.
 pub fn header_sector(v: &[u8], f: u8) -> usize
     requires { TableFormed v.now × IsFile (view v.now).table f }
-    ensures { (result ≡ headerSector (view v.now).table f) × (result < sectorLimit) }
+    ensures { (result ≡ header_sector (view v.now).table f) × (result < sector_limit) }
 {
     let i = sector::wide(f) - 1;
     sector::file_header(table(v), i)
@@ -63,7 +63,7 @@ pub fn header_sector(v: &[u8], f: u8) -> usize
 // The bytes of file f's header.
 pub fn header(v: &[u8], f: u8) -> &[u8]
     requires { TableFormed v.now × IsFile (view v.now).table f }
-    ensures { (result.now ≡ bytesAt (view v.now).table v.now (headerPlace f)) × (length result.now ≡ 256) }
+    ensures { (result.now ≡ bytes_at (view v.now).table v.now (header_place f)) × (length result.now ≡ 256) }
 {
     sector::part(v, header_sector(v, f))
 }
@@ -87,7 +87,7 @@ pub fn mapped_slot(v: &[u8], f: u8, p: u8) -> u8
 // The bytes of client k's intentions record.
 pub fn record(v: &[u8], k: u8) -> &[u8]
     requires { WellFormed v.now × IsClient (view v.now).table k }
-    ensures { (result.now ≡ bytesAt (view v.now).table v.now (recordPlace k)) × (length result.now ≡ 256) }
+    ensures { (result.now ≡ bytes_at (view v.now).table v.now (record_place k)) × (length result.now ≡ 256) }
 {
     sector::part(v, sector::wide(k))
 }
@@ -103,7 +103,7 @@ pub fn state(v: &[u8], k: u8) -> u8
 // The number of its entries.
 pub fn entry_count(v: &[u8], k: u8) -> u8
     requires { WellFormed v.now × IsClient (view v.now).table k }
-    ensures { (result ≡ length ((view v.now).records k).entries) × (result ≤ entryLimit) }
+    ensures { (result ≡ length ((view v.now).records k).entries) × (result ≤ entry_limit) }
 {
     sector::record_count(record(v, k))
 }
@@ -111,7 +111,7 @@ pub fn entry_count(v: &[u8], k: u8) -> u8
 // The file of the entry with index i.
 pub fn entry_file(v: &[u8], k: u8, i: usize) -> u8
     requires { WellFormed v.now × HasEntry (view v.now) k i }
-    ensures { result ≡ (get_or ((view v.now).records k).entries i noEntry).file }
+    ensures { result ≡ (get_or ((view v.now).records k).entries i no_entry).file }
 {
     sector::entry_file(record(v, k), i)
 }
@@ -119,7 +119,7 @@ pub fn entry_file(v: &[u8], k: u8, i: usize) -> u8
 // Its page.
 pub fn entry_page(v: &[u8], k: u8, i: usize) -> u8
     requires { WellFormed v.now × HasEntry (view v.now) k i }
-    ensures { result ≡ (get_or ((view v.now).records k).entries i noEntry).page }
+    ensures { result ≡ (get_or ((view v.now).records k).entries i no_entry).page }
 {
     sector::entry_page(record(v, k), i)
 }
@@ -127,7 +127,7 @@ pub fn entry_page(v: &[u8], k: u8, i: usize) -> u8
 // Its slot.
 pub fn entry_slot(v: &[u8], k: u8, i: usize) -> u8
     requires { WellFormed v.now × HasEntry (view v.now) k i }
-    ensures { result ≡ (get_or ((view v.now).records k).entries i noEntry).slot }
+    ensures { result ≡ (get_or ((view v.now).records k).entries i no_entry).slot }
 {
     sector::entry_slot(record(v, k), i)
 }

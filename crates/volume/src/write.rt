@@ -1,9 +1,9 @@
 // The stores of a volume that was found sound, by their meaning. Each is the one store of the sector layer.
 ghost use Rattle.std.specs.Prelude.{◌≡◌, ◌<◌, length};
 ghost use Rattle.sector.specs.Contents.{File, Table, Record, Header};
-ghost use Rattle.sector.specs.Encoding.{encodeRecord, encodeHeader};
-ghost use Rattle.volume.specs.Places.{IsClient, IsFile, fileAt};
-ghost use Rattle.volume.specs.Views.{View, setRecord, setHeader, setSlot};
+ghost use Rattle.sector.specs.Encoding.{encode_record, encode_header};
+ghost use Rattle.volume.specs.Places.{IsClient, IsFile, file_at};
+ghost use Rattle.volume.specs.Views.{View, set_record, set_header, set_slot};
 ghost use Rattle.volume.specs.Volumes.{view};
 ghost use Rattle.volume.specs.Stores.{updated};
 ghost use Rattle.volume.specs.WellFormed.{WellFormed};
@@ -13,7 +13,7 @@ use crate::read::header_sector;
 // Client k's record becomes the one that src encodes.
 pub fn store_record(v: &mut [u8], k: u8, src: &[u8])
     requires { WellFormed v.old × IsClient (view v.old).table k × (length src.now ≡ 256) }
-    ensures { (r : Record) → src.now ≡ encodeRecord r → v.new ≡ updated (view v.old).table v.old (setRecord k r) }
+    ensures { (r : Record) → src.now ≡ encode_record r → v.new ≡ updated (view v.old).table v.old (set_record k r) }
 {
     sector::store(v, sector::wide(k), src);
 }
@@ -21,7 +21,7 @@ pub fn store_record(v: &mut [u8], k: u8, src: &[u8])
 // File f's header becomes the one that src encodes.
 pub fn store_header(v: &mut [u8], f: u8, src: &[u8])
     requires { WellFormed v.old × IsFile (view v.old).table f × (length src.now ≡ 256) }
-    ensures { (h : Header) → src.now ≡ encodeHeader (fileAt (view v.old).table f) h → v.new ≡ updated (view v.old).table v.old (setHeader f h) }
+    ensures { (h : Header) → src.now ≡ encode_header (file_at (view v.old).table f) h → v.new ≡ updated (view v.old).table v.old (set_header f h) }
 {
     let s = header_sector(v, f);
     sector::store(v, s, src);
@@ -29,8 +29,8 @@ pub fn store_header(v: &mut [u8], f: u8, src: &[u8])
 
 // Slot r of file f becomes src.
 pub fn store_slot(v: &mut [u8], f: u8, r: u8, src: &[u8])
-    requires { WellFormed v.old × IsFile (view v.old).table f × (r < (fileAt (view v.old).table f).slots) × (length src.now ≡ 256) }
-    ensures { v.new ≡ updated (view v.old).table v.old (setSlot f r src.now) }
+    requires { WellFormed v.old × IsFile (view v.old).table f × (r < (file_at (view v.old).table f).slots) × (length src.now ≡ 256) }
+    ensures { v.new ≡ updated (view v.old).table v.old (set_slot f r src.now) }
 {
     let s = header_sector(v, f) + 1 + sector::wide(r);
     sector::store(v, s, src);

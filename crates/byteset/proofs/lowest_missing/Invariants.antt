@@ -5,15 +5,15 @@ use mathlib.Core.Path.{◌≡◌}
 use mathlib.Core.Bool.{true}
 use Prim.Native.Nat.{ℕ, ◌+◌, ◌*◌, ◌-◌, ◌/◌, ◌≤◌, ◌<◌}
 use lib.Dec.{ltb}
-use Rattle.byteset.specs.Bits.{hasBit}
-use Rattle.byteset.specs.Set.{passesOver}
+use Rattle.byteset.specs.Bits.{has_bit}
+use Rattle.byteset.specs.Set.{passes_over}
 use Rattle.byteset.proofs.lowest_missing.Given as goal
 
 abbrev pub invariant-loop-i : goal.invariant-loop-i
 invariant-loop-i l =
     (l.start / 64 ≤ l.i)
-    × ((y : ℕ) → y < 64 * l.i → passesOver l.start l.seen y ≡ true)
-    × ((j : ℕ) → j < 64 → hasBit l.before j ≡ ltb (64 * l.i + j) l.start)
+    × ((y : ℕ) → y < 64 * l.i → passes_over l.start l.seen y ≡ true)
+    × ((j : ℕ) → j < 64 → has_bit l.before j ≡ ltb (64 * l.i + j) l.start)
 
 abbrev pub decreases-loop-i : goal.decreases-loop-i
 decreases-loop-i l =

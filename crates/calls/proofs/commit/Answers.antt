@@ -2,14 +2,14 @@
 use mathlib.Core.Path.{◌∙◌}
 use native.Mathlib.Omega.{arith}
 use Rattle.rules.specs.Plans.{commit}
-use Rattle.calls.proofs.FactLaws.{call-formed, acts}
-use Rattle.calls.proofs.AnswerLaws.{refused-call, ended-call}
+use Rattle.calls.proofs.FactLaws.{call_formed, acts}
+use Rattle.calls.proofs.AnswerLaws.{refused_call, ended_call}
 use Rattle.calls.proofs.commit.Goals as goal
 
 pub commit_stores-made-requires : goal.commit_stores-made-requires
 commit_stores-made-requires c =
     let e = c.in-Accepted.ensures in
-    (call-formed c.args.volume.now c.args.session (commit c.args.client) e, (acts c.args.volume.now c.args.session c.args.client e).client)
+    (call_formed c.args.volume.now c.args.session (commit c.args.client) e, (acts c.args.volume.now c.args.session c.args.client e).client)
 
 pub without_client-requires : goal.without_client-requires
 without_client-requires c =
@@ -19,11 +19,11 @@ without_client-requires c =
 pub returns-in-Refused : goal.returns-in-Refused
 returns-in-Refused c =
     let a = c.args in
-    c.refuse.ensures a.volume.now ∙ refused-call a.volume.now a.session (commit a.client) a.budget c.in-Refused.r c.in-Refused.ensures
+    c.refuse.ensures a.volume.now ∙ refused_call a.volume.now a.session (commit a.client) a.budget c.in-Refused.r c.in-Refused.ensures
 
 pub returns-in-Accepted : goal.returns-in-Accepted
 returns-in-Accepted c =
     let a = c.args in
     let y = c.commit_stores-made in
     c.end.ensures y.new.v
-    ∙ rw c.without_client.ensures (ended-call a.volume.now a.session (commit a.client) a.budget c.in-Accepted.ensures y.new.v y.result (y.ensures a.session))
+    ∙ rw c.without_client.ensures (ended_call a.volume.now a.session (commit a.client) a.budget c.in-Accepted.ensures y.new.v y.result (y.ensures a.session))

@@ -1,10 +1,10 @@
 -- `look` meets its contract: a refusal is the look's, and so is the sector.
 use mathlib.Core.Path.{sym, ap, ◌∙◌}
-use Rattle.interface.specs.Answers.{newSession, found}
-use Rattle.rules.specs.Plans.{lookPage}
-use Rattle.rules.specs.Refusals.{queryTests}
-use Rattle.rules.proofs.CallLaws.{query-answered}
-use Rattle.calls.proofs.AnswerLaws.{refused-query}
+use Rattle.interface.specs.Answers.{new_session, found}
+use Rattle.rules.specs.Plans.{look_page}
+use Rattle.rules.specs.Refusals.{query_tests}
+use Rattle.rules.proofs.CallLaws.{query_answered}
+use Rattle.calls.proofs.AnswerLaws.{refused_query}
 use Rattle.calls.proofs.FactLaws.{looks}
 use Rattle.calls.proofs.look.Goals as goal
 
@@ -19,12 +19,12 @@ slot_sector-requires c =
     (w.formed, w.page.file)
 
 pub returns-in-Refused : goal.returns-in-Refused
-unfolding queryTests
+unfolding query_tests
 returns-in-Refused c =
-    refused-query c.args.volume.now newSession (lookPage c.args.file c.args.page) c.in-Refused.r c.in-Refused.ensures
+    refused_query c.args.volume.now new_session (look_page c.args.file c.args.page) c.in-Refused.r c.in-Refused.ensures
 
 pub returns-in-Accepted : goal.returns-in-Accepted
-unfolding queryTests
+unfolding query_tests
 returns-in-Accepted c =
     ap found (rw c.decided_slot-slot.ensures at c.slot_sector.ensures)
-    ∙ sym (query-answered c.args.volume.now newSession (lookPage c.args.file c.args.page) (sym c.in-Accepted.ensures))
+    ∙ sym (query_answered c.args.volume.now new_session (look_page c.args.file c.args.page) (sym c.in-Accepted.ensures))

@@ -1,8 +1,8 @@
 -- `open` meets its contract: a refusal is the call's, and so are the stores of its plan.
 use mathlib.Core.Path.{◌∙◌}
-use Rattle.rules.specs.Plans.{openFile}
+use Rattle.rules.specs.Plans.{open_file}
 use Rattle.calls.proofs.FactLaws.{opens}
-use Rattle.calls.proofs.AnswerLaws.{refused-call, ended-call}
+use Rattle.calls.proofs.AnswerLaws.{refused_call, ended_call}
 use Rattle.calls.proofs.open.Goals as goal
 
 pub open_stores-run-requires : goal.open_stores-run-requires
@@ -18,7 +18,7 @@ without_reading-requires c =
 pub returns-in-Refused : goal.returns-in-Refused
 returns-in-Refused c =
     let a = c.args in
-    c.refuse.ensures a.volume.now ∙ refused-call a.volume.now a.session (openFile a.client a.file) a.budget c.in-Refused.r c.in-Refused.ensures
+    c.refuse.ensures a.volume.now ∙ refused_call a.volume.now a.session (open_file a.client a.file) a.budget c.in-Refused.r c.in-Refused.ensures
 
 pub returns-in-Accepted : goal.returns-in-Accepted
 returns-in-Accepted c =
@@ -27,4 +27,4 @@ returns-in-Accepted c =
     let y = c.open_stores-run in
     let free = (opens a.volume.now a.session a.client a.file e).free in
     c.end.ensures y.new.v
-    ∙ rw c.without_reading.ensures (ended-call a.volume.now a.session (openFile a.client a.file) a.budget e y.new.v y.result (y.ensures a.session free))
+    ∙ rw c.without_reading.ensures (ended_call a.volume.now a.session (open_file a.client a.file) a.budget e y.new.v y.result (y.ensures a.session free))

@@ -1,16 +1,16 @@
 -- `vol_write` meets its contract: a session with other bits is refused, any other is the session of the call.
 use Rattle.rules.specs.Plans.{write}
-use Rattle.capi.proofs.CallLaws.{refused-bits, passed-call}
+use Rattle.capi.proofs.CallLaws.{refused_bits, passed_call}
 use Rattle.capi.proofs.vol_write.Goals as goal
 
 pub returns-then-session-gt15 : goal.returns-then-session-gt15
 returns-then-session-gt15 c =
     let a = c.args in
-    refused-bits a.volume.now a.session (write a.client a.file a.page a.bytes.now) a.budget _ c.if-session-gt15.true c.refuse_session.ensures
+    refused_bits a.volume.now a.session (write a.client a.file a.page a.bytes.now) a.budget _ c.if-session-gt15.true c.refuse_session.ensures
 
 pub returns : goal.returns
 returns c =
     let a = c.args in
     let y = c.write in
-    passed-call a.volume.now y.new.volume a.session c.session_from.result (write a.client a.file a.page a.bytes.now) a.budget y.result _ c.if-session-gt15.false
+    passed_call a.volume.now y.new.volume a.session c.session_from.result (write a.client a.file a.page a.bytes.now) a.budget y.result _ c.if-session-gt15.false
     c.session_from.ensures y.ensures c.pass.ensures

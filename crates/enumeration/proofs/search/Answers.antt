@@ -5,24 +5,24 @@ use borrow.Author.Rules.{rules}
 use lib.ListN.{length}
 use Rattle.volume.specs.Sound.{sound}
 use Rattle.enumeration.specs.Small.{candidates}
-use Rattle.enumeration.proofs.ChoiceLaws.{candidates-count}
-use Rattle.enumeration.proofs.AdvanceLaws.{number-here, number-later, number-end}
+use Rattle.enumeration.proofs.ChoiceLaws.{candidates_count}
+use Rattle.enumeration.proofs.AdvanceLaws.{number_here, number_later, number_end}
 use Rattle.enumeration.proofs.search.Goals as goal
 
 pub make_candidate-requires : goal.make_candidate-requires
-make_candidate-requires c = (search rules, rw candidates-count (search rules))
+make_candidate-requires c = (search rules, rw candidates_count (search rules))
 
 pub returns-then-is_sound : goal.returns-then-is_sound
 returns-then-is_sound c =
-    let here : c.loop-i.i < length candidates = rw candidates-count (search rules) in
-    sym (number-here c.loop-i.i here (ap sound (sym c.make_candidate.ensures) ∙ (sym c.is_sound.ensures ∙ c.if-is_sound.true))) ∙ c.loop-i.invariant.0
+    let here : c.loop-i.i < length candidates = rw candidates_count (search rules) in
+    sym (number_here c.loop-i.i here (ap sound (sym c.make_candidate.ensures) ∙ (sym c.is_sound.ensures ∙ c.if-is_sound.true))) ∙ c.loop-i.invariant.0
 
 pub loop-i-preserved : goal.loop-i-preserved
 loop-i-preserved c =
-    let here : c.loop-i.i < length candidates = rw candidates-count (search rules) in
-    (sym (number-later c.loop-i.i here (ap sound (sym c.make_candidate.ensures) ∙ (sym c.is_sound.ensures ∙ c.if-is_sound.false))) ∙ c.loop-i.invariant.0, search rules)
+    let here : c.loop-i.i < length candidates = rw candidates_count (search rules) in
+    (sym (number_later c.loop-i.i here (ap sound (sym c.make_candidate.ensures) ∙ (sym c.is_sound.ensures ∙ c.if-is_sound.false))) ∙ c.loop-i.invariant.0, search rules)
 
 pub returns : goal.returns
 returns c =
-    let over : length candidates ≤ c.loop-i.i = rw candidates-count (search rules) in
-    sym (number-end c.loop-i.i over) ∙ c.loop-i.invariant.0
+    let over : length candidates ≤ c.loop-i.i = rw candidates_count (search rules) in
+    sym (number_end c.loop-i.i over) ∙ c.loop-i.invariant.0

@@ -3,12 +3,12 @@ use mathlib.Core.Path.{◌≡◌}
 use Prim.Native.Nat.{◌-◌}
 use lib.ListN.{length, drop}
 use Rattle.enumeration.specs.Small.{candidates}
-use Rattle.enumeration.specs.Advances.{firstSound}
+use Rattle.enumeration.specs.Advances.{first_sound}
 use Rattle.enumeration.proofs.search.Given as goal
 
 abbrev pub invariant-loop-i : goal.invariant-loop-i
 invariant-loop-i l =
-    (firstSound l.i (drop l.i candidates) ≡ firstSound l.from (drop l.from candidates)) × (length l.trial ≡ length l.initial.trial)
+    (first_sound l.i (drop l.i candidates) ≡ first_sound l.from (drop l.from candidates)) × (length l.trial ≡ length l.initial.trial)
 
 abbrev pub decreases-loop-i : goal.decreases-loop-i
 decreases-loop-i l =

@@ -2,13 +2,13 @@
 use mathlib.Core.Path.{◌≡◌}
 use Prim.Native.Nat.{◌-◌, ◌≤◌}
 use lib.ListN.{drop}
-use Rattle.sector.specs.Decoding.{decodeRecord}
-use Rattle.header_test.specs.Header.{slotsApart}
+use Rattle.sector.specs.Decoding.{decode_record}
+use Rattle.header_test.specs.Header.{slots_apart}
 use Rattle.header_test.proofs.slots_apart.Given as goal
 
 abbrev pub invariant-loop-i : goal.invariant-loop-i
 invariant-loop-i l =
-    (l.i ≤ l.n) × (slotsApart l.f l.seen (decodeRecord l.d).entries ≡ slotsApart l.f l.seen (drop l.i (decodeRecord l.d).entries))
+    (l.i ≤ l.n) × (slots_apart l.f l.seen (decode_record l.d).entries ≡ slots_apart l.f l.seen (drop l.i (decode_record l.d).entries))
 
 abbrev pub decreases-loop-i : goal.decreases-loop-i
 decreases-loop-i l =

@@ -5,7 +5,7 @@ use native.Mathlib.Omega.{arith}
 use borrow.Author.Tests.{lt-ltb, le-ltb}
 use Rattle.listing.specs.Listed.{listed}
 use Rattle.volume.specs.Sound.{sound}
-use Rattle.listing.proofs.ListingLaws.{listed-text}
+use Rattle.listing.proofs.ListingLaws.{listed_text}
 use Rattle.listing.proofs.list.Goals as goal
 
 pub returns-then-out-lt-ROOM : goal.returns-then-out-lt-ROOM
@@ -21,4 +21,4 @@ returns-then-not-is_sound c =
 pub returns : goal.returns
 returns c =
     let ok : sound c.args.v.now ≡ true = sym c.is_sound.ensures ∙ c.if-not-is_sound.false in
-    listed-text c.args.v.now c.args.out.now _ _ (omega arith) ok c.list_lines.ensures
+    listed_text c.args.v.now c.args.out.now _ _ (omega arith) ok c.list_lines.ensures

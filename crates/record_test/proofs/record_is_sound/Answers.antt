@@ -1,21 +1,21 @@
 -- `record_is_sound` meets its contract: it is a record, so it has at most 62 entries, and then its numbers.
 use native.Mathlib.Omega.{arith}
 use mathlib.Core.Path.{sym, ◌∙◌}
-use Rattle.sector.specs.Decoding.{decodeTable}
-use Rattle.sector.proofs.EncodedLaws.{record-few}
-use Rattle.record_test.proofs.RecordLaws.{no-record, record-last}
+use Rattle.sector.specs.Decoding.{decode_table}
+use Rattle.sector.proofs.EncodedLaws.{record_few}
+use Rattle.record_test.proofs.RecordLaws.{no_record, record_last}
 use Rattle.record_test.proofs.record_is_sound.Goals as goal
 
 pub returns-then-not-is_record : goal.returns-then-not-is_record
-returns-then-not-is_record c = sym (no-record _ _ (sym c.is_record.ensures ∙ c.if-not-is_record.true))
+returns-then-not-is_record c = sym (no_record _ _ (sym c.is_record.ensures ∙ c.if-not-is_record.true))
 
 pub entries_fit-requires : goal.entries_fit-requires
 entries_fit-requires c =
-    let few = record-few c.args.d.now c.requires.1 (sym c.is_record.ensures ∙ c.if-not-is_record.false) in
+    let few = record_few c.args.d.now c.requires.1 (sym c.is_record.ensures ∙ c.if-not-is_record.false) in
     let n = c.wide.ensures.0 ∙ c.record_count.ensures in
     (c.requires.0, c.requires.1, c.requires.2, n, omega (arith, few, n))
 
 pub returns : goal.returns
 returns c =
     let is = sym c.is_record.ensures ∙ c.if-not-is_record.false in
-    rw (c.state_fits.ensures, c.entries_fit.ensures) (record-last (decodeTable c.args.table.now) c.args.d.now c.requires.1 is)
+    rw (c.state_fits.ensures, c.entries_fit.ensures) (record_last (decode_table c.args.table.now) c.args.d.now c.requires.1 is)

@@ -1,12 +1,12 @@
 -- `session_fits` meets its contract: the marks first, then the holds.
 use mathlib.Core.Path.{sym, ◌∙◌}
-use Rattle.rules.specs.Sessions.{sessionFits}
+use Rattle.rules.specs.Sessions.{session_fits}
 use Rattle.sessions.proofs.session_fits.Goals as goal
 
 pub returns-then-not-marks_fit : goal.returns-then-not-marks_fit
-unfolding sessionFits
+unfolding session_fits
 returns-then-not-marks_fit c = rw (sym c.marks_fit.ensures ∙ c.if-not-marks_fit.true)
 
 pub returns : goal.returns
-unfolding sessionFits
+unfolding session_fits
 returns c = rw (sym c.marks_fit.ensures ∙ c.if-not-marks_fit.false) c.holds_fit.ensures

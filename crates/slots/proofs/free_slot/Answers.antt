@@ -2,23 +2,23 @@
 -- finds those from the start on, the second one all.
 use Rattle.std.proofs.Common.{ℕ, ◌+◌, ◌∙◌, ap}
 use Rattle.volume.specs.Volumes.{view}
-use Rattle.slots.proofs.SlotLaws.{free-above, free-again, free-none}
+use Rattle.slots.proofs.SlotLaws.{free_above, free_again, free_none}
 use Rattle.slots.proofs.free_slot.Goals as goal
 
 pub returns-then-above-n : goal.returns-then-above-n
 returns-then-above-n c =
     let begins = ap (λ (x : ℕ). x + 1) (c.wide-start.ensures.0 ∙ c.mapped_slot.ensures) in
-    free-above (view c.args.v.now) c.args.k c.args.f _ _ c.take_mapped.ensures.0 c.take_given.ensures.0 c.args.p _ _ _ c.slots-n.ensures begins
+    free_above (view c.args.v.now) c.args.k c.args.f _ _ c.take_mapped.ensures.0 c.take_given.ensures.0 c.args.p _ _ _ c.slots-n.ensures begins
     c.lowest_missing-above.ensures c.if-above-n.true
 
 pub returns-then-again-n : goal.returns-then-again-n
 returns-then-again-n c =
     let begins = ap (λ (x : ℕ). x + 1) (c.wide-start.ensures.0 ∙ c.mapped_slot.ensures) in
-    free-again (view c.args.v.now) c.args.k c.args.f _ _ c.take_mapped.ensures.0 c.take_given.ensures.0 c.args.p _ _ _ c.slots-n.ensures begins
+    free_again (view c.args.v.now) c.args.k c.args.f _ _ c.take_mapped.ensures.0 c.take_given.ensures.0 c.args.p _ _ _ c.slots-n.ensures begins
     c.lowest_missing-above.ensures _ c.lowest_missing-again.ensures c.if-above-n.false c.if-again-n.true
 
 pub returns : goal.returns
 returns c =
     let begins = ap (λ (x : ℕ). x + 1) (c.wide-start.ensures.0 ∙ c.mapped_slot.ensures) in
-    free-none (view c.args.v.now) c.args.k c.args.f _ _ c.take_mapped.ensures.0 c.take_given.ensures.0 c.args.p _ _ _ c.slots-n.ensures begins
+    free_none (view c.args.v.now) c.args.k c.args.f _ _ c.take_mapped.ensures.0 c.take_given.ensures.0 c.args.p _ _ _ c.slots-n.ensures begins
     c.lowest_missing-above.ensures _ c.lowest_missing-again.ensures c.if-above-n.false c.if-again-n.false

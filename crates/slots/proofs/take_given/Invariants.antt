@@ -1,16 +1,16 @@
 -- `take_given` meets its contract: what is taken, or is left of the entries, stays the same.
 use Rattle.std.proofs.Common.{◌≡◌, ◌||◌, ◌≤◌, ◌-◌, ℕ, length, drop}
 use Rattle.lists.specs.Lists.{any}
-use Rattle.sector.specs.Entries.{givesSlot}
+use Rattle.sector.specs.Entries.{gives_slot}
 use Rattle.volume.specs.Volumes.{view}
-use Rattle.byteset.specs.Set.{hasByte}
+use Rattle.byteset.specs.Set.{has_byte}
 use Rattle.slots.proofs.take_given.Given as goal
 
 abbrev pub invariant-loop-i : goal.invariant-loop-i
 invariant-loop-i l = record {
   within : l.i ≤ l.n;
   count : l.n ≡ length ((view l.v).records l.k).entries;
-  taken : (y : ℕ) → (hasByte l.taken y || any (givesSlot l.f y) (drop l.i ((view l.v).records l.k).entries)) ≡ (hasByte l.initial.taken y || any (givesSlot l.f y) ((view l.v).records l.k).entries);
+  taken : (y : ℕ) → (has_byte l.taken y || any (gives_slot l.f y) (drop l.i ((view l.v).records l.k).entries)) ≡ (has_byte l.initial.taken y || any (gives_slot l.f y) ((view l.v).records l.k).entries);
   size : length l.taken ≡ 4;
 }
 

@@ -2,14 +2,14 @@
 use Rattle.std.proofs.Common.{◌≡◌, ◌||◌, ◌≤◌, ◌-◌, ℕ, length, drop}
 use Rattle.lists.specs.Lists.{member}
 use Rattle.volume.specs.Volumes.{view}
-use Rattle.byteset.specs.Set.{hasByte}
+use Rattle.byteset.specs.Set.{has_byte}
 use Rattle.slots.proofs.take_mapped.Given as goal
 
 abbrev pub invariant-loop-p : goal.invariant-loop-p
 invariant-loop-p l = record {
   within : l.p ≤ l.n;
   size : l.n ≡ length ((view l.v).headers l.f).map;
-  taken : (y : ℕ) → (hasByte l.taken y || member y (drop l.p ((view l.v).headers l.f).map)) ≡ (hasByte l.initial.taken y || member y ((view l.v).headers l.f).map);
+  taken : (y : ℕ) → (has_byte l.taken y || member y (drop l.p ((view l.v).headers l.f).map)) ≡ (has_byte l.initial.taken y || member y ((view l.v).headers l.f).map);
   long : length l.taken ≡ 4;
 }
 

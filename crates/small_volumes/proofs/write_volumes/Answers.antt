@@ -3,11 +3,11 @@ use mathlib.Core.Path.{sym, ap, subst}
 use native.Mathlib.Omega.{arith}
 use Rattle.enumeration.specs.declared.AdvanceOutcome.{AdvanceOutcome}
 use Rattle.enumeration.specs.Advances.{Advanced}
-use Rattle.enumeration.proofs.AdvanceLaws.{GoesOn, advance-goes-on}
+use Rattle.enumeration.proofs.AdvanceLaws.{GoesOn, advance_goes_on}
 use Rattle.small_volumes.proofs.write_volumes.Goals as goal
 
 pub loop-n-smaller : goal.loop-n-smaller
 loop-n-smaller g c =
     let answered = sym (ap (λ (s : Advanced). s.answer) c.in-To.ensures) in
-    let on : GoesOn c.loop-n.at (AdvanceOutcome.To c.in-To.n) = subst (GoesOn c.loop-n.at) answered (advance-goes-on c.loop-n.v c.loop-n.at) in
+    let on : GoesOn c.loop-n.at (AdvanceOutcome.To c.in-To.n) = subst (GoesOn c.loop-n.at) answered (advance_goes_on c.loop-n.v c.loop-n.at) in
     omega (arith, on.0, on.1)

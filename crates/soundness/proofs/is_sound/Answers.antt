@@ -1,39 +1,39 @@
--- `is_sound` meets its contract: the tests of `soundTest`, in order. Each asks for what those before it have shown.
+-- `is_sound` meets its contract: the tests of `sound_test`, in order. Each asks for what those before it have shown.
 use mathlib.Core.Path.{refl, sym, ◌∙◌}
 use native.Mathlib.Omega.{arith}
 use Rattle.sector.specs.Sectors.{sector}
-use Rattle.soundness.proofs.SoundLaws.{few-clients, records-inside, tested, table-tested, table-unsound, records-no, sound-last}
+use Rattle.soundness.proofs.SoundLaws.{few_clients, records_inside, tested, table_tested, table_unsound, records_no, sound_last}
 use Rattle.soundness.proofs.is_sound.Goals as goal
 
 pub returns-then-not-table_is_sound_in : goal.returns-then-not-table_is_sound_in
 returns-then-not-table_is_sound_in c =
-    sym (table-unsound c.args.v.now (sym c.table_is_sound_in.ensures ∙ c.if-not-table_is_sound_in.true))
+    sym (table_unsound c.args.v.now (sym c.table_is_sound_in.ensures ∙ c.if-not-table_is_sound_in.true))
 
 pub part-table-requires : goal.part-table-requires
 part-table-requires c =
     let v = c.args.v.now in
-    let k = table-tested v (sector v 0) refl (sym c.table_is_sound_in.ensures ∙ c.if-not-table_is_sound_in.false) in
+    let k = table_tested v (sector v 0) refl (sym c.table_is_sound_in.ensures ∙ c.if-not-table_is_sound_in.false) in
     (k.long, omega arith)
 
 pub records_are_sound-requires : goal.records_are_sound-requires
 records_are_sound-requires c =
     let v = c.args.v.now in
     let tb = c.part-table.result.now in
-    let k = table-tested v tb c.part-table.ensures.0 (sym c.table_is_sound_in.ensures ∙ c.if-not-table_is_sound_in.false) in
+    let k = table_tested v tb c.part-table.ensures.0 (sym c.table_is_sound_in.ensures ∙ c.if-not-table_is_sound_in.false) in
     let n = c.wide.ensures.0 ∙ c.table_clients.ensures in
-    (c.part-table.ensures.1, k.table, rw n (few-clients v tb k.table k.size), rw n (records-inside v tb k.table k.size))
+    (c.part-table.ensures.1, k.table, rw n (few_clients v tb k.table k.size), rw n (records_inside v tb k.table k.size))
 
 pub returns-then-not-records_are_sound : goal.returns-then-not-records_are_sound
 returns-then-not-records_are_sound c =
     let n = c.wide.ensures.0 ∙ c.table_clients.ensures in
     let no = rw n at (sym c.records_are_sound.ensures ∙ c.if-not-records_are_sound.true) in
-    sym (records-no c.args.v.now _ c.part-table.ensures.0 no)
+    sym (records_no c.args.v.now _ c.part-table.ensures.0 no)
 
 pub headers_are_sound-requires : goal.headers_are_sound-requires
 headers_are_sound-requires c =
     let v = c.args.v.now in
     let tb = c.part-table.result.now in
-    let k = table-tested v tb c.part-table.ensures.0 (sym c.table_is_sound_in.ensures ∙ c.if-not-table_is_sound_in.false) in
+    let k = table_tested v tb c.part-table.ensures.0 (sym c.table_is_sound_in.ensures ∙ c.if-not-table_is_sound_in.false) in
     let n = c.wide.ensures.0 ∙ c.table_clients.ensures in
     let recs = rw n at (sym c.records_are_sound.ensures ∙ c.if-not-records_are_sound.false) in
     (tested v tb k.table k.size c.part-table.ensures.1 recs, c.wide-2.ensures.0 ∙ c.table_files.ensures)
@@ -45,4 +45,4 @@ returns c =
     let n = c.wide.ensures.0 ∙ c.table_clients.ensures in
     let recs = rw n at (sym c.records_are_sound.ensures ∙ c.if-not-records_are_sound.false) in
     c.headers_are_sound.ensures
-    ∙ rw (c.wide-2.ensures.0, c.table_files.ensures) (sound-last v tb c.part-table.ensures.0 (sym c.table_is_sound_in.ensures ∙ c.if-not-table_is_sound_in.false) recs)
+    ∙ rw (c.wide-2.ensures.0, c.table_files.ensures) (sound_last v tb c.part-table.ensures.0 (sym c.table_is_sound_in.ensures ∙ c.if-not-table_is_sound_in.false) recs)

@@ -1,10 +1,10 @@
--- `counts_fit` meets its contract: the tests of `countsFit`, by the numbers read.
+-- `counts_fit` meets its contract: the tests of `counts_fit`, by the numbers read.
 use mathlib.Core.Bool.{and-true}
 use Rattle.lists.specs.Lists.{all}
-use Rattle.table_test.specs.Table.{countsFit}
+use Rattle.table_test.specs.Table.{counts_fit}
 use Rattle.table_test.proofs.counts_fit.Goals as goal
 
 pub returns : goal.returns
-unfolding countsFit all
+unfolding counts_fit all
 returns c =
     rw (c.wide-files.ensures.0, c.table_files.ensures, c.wide-clients.ensures.0, c.table_clients.ensures, c.table_sectors-sectors.ensures.0) (simp and-true)

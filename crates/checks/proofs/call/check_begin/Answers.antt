@@ -1,18 +1,18 @@
 -- `check_begin` meets its contract: the tests of every call, then the mark.
 use mathlib.Core.Path.{refl, sym, ◌∙◌}
 use Rattle.rules.specs.Refusals.{tests}
-use Rattle.lists.proofs.SearchLaws.{one-holds, one-fails}
-use Rattle.checks.proofs.VerdictLaws.{accepted, refuses, accepts, client-low}
+use Rattle.lists.proofs.SearchLaws.{one_holds, one_fails}
+use Rattle.checks.proofs.VerdictLaws.{accepted, refuses, accepts, client_low}
 use Rattle.checks.proofs.call.check_begin.Goals as goal
 
 pub is_active-requires : goal.is_active-requires
 is_active-requires c =
-    client-low c.args.v.now c.args.s c.args.k (accepted _ c.in-Accepted.is c.check_client.ensures)
+    client_low c.args.v.now c.args.s c.args.k (accepted _ c.in-Accepted.is c.check_client.ensures)
 
 pub returns-then-is_active : goal.returns-then-is_active
 unfolding tests
 returns-then-is_active c =
-    accepts _ _ c.in-Accepted.is c.check_client.ensures refl (one-holds _ (sym c.is_active.ensures ∙ c.if-is_active.true))
+    accepts _ _ c.in-Accepted.is c.check_client.ensures refl (one_holds _ (sym c.is_active.ensures ∙ c.if-is_active.true))
 
 pub returns-in-Refused : goal.returns-in-Refused
 unfolding tests
@@ -21,4 +21,4 @@ returns-in-Refused c = refuses _ _ c.in-Refused.is c.check_client.ensures
 pub returns-else-is_active : goal.returns-else-is_active
 unfolding tests
 returns-else-is_active c =
-    accepts _ _ c.in-Accepted.is c.check_client.ensures refl (one-fails _ (sym c.is_active.ensures ∙ c.if-is_active.false))
+    accepts _ _ c.in-Accepted.is c.check_client.ensures refl (one_fails _ (sym c.is_active.ensures ∙ c.if-is_active.false))

@@ -2,7 +2,7 @@
 use mathlib.Core.Path.{sym, ◌∙◌}
 use borrow.Author.Tests.{le-leb, lt-leb}
 use Rattle.lists.specs.Lists.{first}
-use Rattle.volume.proofs.WellFormedLaws.{sound-formed}
+use Rattle.volume.proofs.WellFormedLaws.{sound_formed}
 use Rattle.checks.proofs.call.check_client.Goals as goal
 
 pub returns-then-not-ok : goal.returns-then-not-ok
@@ -11,7 +11,7 @@ returns-then-not-ok c = rw (sym c.requires ∙ c.if-not-ok.true)
 
 pub session_fits-requires : goal.session_fits-requires
 session_fits-requires c =
-    sound-formed c.args.v.now (sym c.requires ∙ c.if-not-ok.false)
+    sound_formed c.args.v.now (sym c.requires ∙ c.if-not-ok.false)
 
 pub returns-then-not-session_fits : goal.returns-then-not-session_fits
 unfolding first
@@ -25,7 +25,7 @@ returns-then-k-lt1 c =
 
 pub clients-requires : goal.clients-requires
 clients-requires c =
-    sound-formed c.args.v.now (sym c.requires ∙ c.if-not-ok.false)
+    sound_formed c.args.v.now (sym c.requires ∙ c.if-not-ok.false)
 
 pub returns-then-clients-k : goal.returns-then-clients-k
 unfolding first

@@ -1,7 +1,7 @@
 -- `check_look` meets its contract: the first test that fails gives its number.
 use mathlib.Core.Path.{sym, ◌∙◌}
 use Rattle.lists.specs.Lists.{first}
-use Rattle.volume.proofs.WellFormedLaws.{sound-formed}
+use Rattle.volume.proofs.WellFormedLaws.{sound_formed}
 use Rattle.checks.proofs.look.check_look.Goals as goal
 
 pub returns-then-not-is_sound : goal.returns-then-not-is_sound
@@ -10,7 +10,7 @@ returns-then-not-is_sound c = rw (sym c.is_sound.ensures ∙ c.if-not-is_sound.t
 
 pub is_file-requires : goal.is_file-requires
 is_file-requires c =
-    (sound-formed c.args.v.now (sym c.is_sound.ensures ∙ c.if-not-is_sound.false)).tabled
+    (sound_formed c.args.v.now (sym c.is_sound.ensures ∙ c.if-not-is_sound.false)).tabled
 
 pub returns-then-not-is_file : goal.returns-then-not-is_file
 unfolding first

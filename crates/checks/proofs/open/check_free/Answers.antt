@@ -2,13 +2,13 @@
 use mathlib.Core.Path.{sym, ◌∙◌}
 use Rattle.lists.specs.Lists.{first}
 use Rattle.volume.specs.Volumes.{view}
-use Rattle.volume.proofs.PlaceLaws.{file-of}
-use Rattle.volume.proofs.WellFormedLaws.{sound-formed}
-use Rattle.checks.proofs.VerdictLaws.{file-low}
+use Rattle.volume.proofs.PlaceLaws.{file_of}
+use Rattle.volume.proofs.WellFormedLaws.{sound_formed}
+use Rattle.checks.proofs.VerdictLaws.{file_low}
 use Rattle.checks.proofs.open.check_free.Goals as goal
 
 pub is_file-requires : goal.is_file-requires
-is_file-requires c = (sound-formed c.args.v.now c.requires).tabled
+is_file-requires c = (sound_formed c.args.v.now c.requires).tabled
 
 pub returns-then-not-is_file : goal.returns-then-not-is_file
 unfolding first
@@ -21,7 +21,7 @@ returns-then-held_by_other c =
 
 pub is_read_by_other-requires : goal.is_read_by_other-requires
 is_read_by_other-requires c =
-    file-low c.args.v.now c.args.f c.requires (file-of (view c.args.v.now).table c.args.f (sym c.is_file.ensures ∙ c.if-not-is_file.false))
+    file_low c.args.v.now c.args.f c.requires (file_of (view c.args.v.now).table c.args.f (sym c.is_file.ensures ∙ c.if-not-is_file.false))
 
 pub returns-then-is_read_by_other : goal.returns-then-is_read_by_other
 unfolding first

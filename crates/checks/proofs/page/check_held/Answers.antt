@@ -1,11 +1,11 @@
 -- `check_held` meets its contract: the first test that fails gives its number.
 use mathlib.Core.Path.{sym, ◌∙◌}
 use Rattle.lists.specs.Lists.{first}
-use Rattle.volume.proofs.WellFormedLaws.{sound-formed}
+use Rattle.volume.proofs.WellFormedLaws.{sound_formed}
 use Rattle.checks.proofs.page.check_held.Goals as goal
 
 pub is_file-requires : goal.is_file-requires
-is_file-requires c = (sound-formed c.args.v.now c.requires.0).tabled
+is_file-requires c = (sound_formed c.args.v.now c.requires.0).tabled
 
 pub returns-then-not-is_file : goal.returns-then-not-is_file
 unfolding first

@@ -1,11 +1,11 @@
 -- `check_page` meets its contract: one test.
 use borrow.Author.Tests.{le-ltb, lt-ltb}
 use Rattle.lists.specs.Lists.{first}
-use Rattle.volume.proofs.WellFormedLaws.{sound-formed}
+use Rattle.volume.proofs.WellFormedLaws.{sound_formed}
 use Rattle.checks.proofs.page.check_page.Goals as goal
 
 pub pages-requires : goal.pages-requires
-pages-requires c = (sound-formed c.args.v.now c.requires.0, c.requires.1)
+pages-requires c = (sound_formed c.args.v.now c.requires.0, c.requires.1)
 
 pub returns-then-pages-p : goal.returns-then-pages-p
 unfolding first

@@ -3,10 +3,10 @@ use mathlib.Core.Path.{sym, ap, ◌∙◌}
 use borrow.Author.Tests.{eq-eqb, ne_eqb}
 use Rattle.lists.specs.Lists.{first}
 use Rattle.volume.specs.Volumes.{view}
-use Rattle.slots.specs.Slots.{slotOf}
-use Rattle.slots.proofs.SlotLaws.{entry-at, no-entry}
+use Rattle.slots.specs.Slots.{slot_of}
+use Rattle.slots.proofs.SlotLaws.{entry_at, no_entry_lem}
 use Rattle.checks.specs.Writes.{again}
-use Rattle.checks.proofs.WriteVerdictLaws.{answerFor}
+use Rattle.checks.proofs.WriteVerdictLaws.{answer_for}
 use Rattle.checks.proofs.write.check_slot.Goals as goal
 
 pub returns-then-bytes-ne-SIZE : goal.returns-then-bytes-ne-SIZE
@@ -16,13 +16,13 @@ returns-then-bytes-ne-SIZE c = rw (ne_eqb _ 256 c.if-bytes-ne-SIZE.true)
 pub returns-in-Slot : goal.returns-in-Slot
 unfolding first
 returns-in-Slot c =
-    let e = entry-at _ _ (ap slotOf (sym c.in-Slot.is) ∙ c.find_entry.ensures) in
-    sym (ap (answerFor (view c.args.v.now) c.args.k c.args.f c.args.p c.args.bytes.now) e.found
+    let e = entry_at _ _ (ap slot_of (sym c.in-Slot.is) ∙ c.find_entry.ensures) in
+    sym (ap (answer_for (view c.args.v.now) c.args.k c.args.f c.args.p c.args.bytes.now) e.found
     ∙ rw (eq-eqb _ 256 c.if-bytes-ne-SIZE.false) (ap again e.slot))
 
 pub returns-in-Nothing : goal.returns-in-Nothing
 unfolding first
 returns-in-Nothing c =
-    let e = no-entry _ (ap slotOf (sym c.in-Nothing.is) ∙ c.find_entry.ensures) in
-    sym (ap (answerFor (view c.args.v.now) c.args.k c.args.f c.args.p c.args.bytes.now) e
+    let e = no_entry_lem _ (ap slot_of (sym c.in-Nothing.is) ∙ c.find_entry.ensures) in
+    sym (ap (answer_for (view c.args.v.now) c.args.k c.args.f c.args.p c.args.bytes.now) e
     ∙ rw (eq-eqb _ 256 c.if-bytes-ne-SIZE.false) (sym c.new_slot.ensures))

@@ -1,13 +1,13 @@
 -- `check_write_call` meets its contract: the tests of an active client, then those of the page.
 use mathlib.Core.Path.{refl}
 use Rattle.rules.specs.Refusals.{tests}
-use Rattle.checks.proofs.VerdictLaws.{accepted, refuses, accepts, active-client}
+use Rattle.checks.proofs.VerdictLaws.{accepted, refuses, accepts, active_client}
 use Rattle.checks.proofs.write.check_write_call.Goals as goal
 
 pub check_write_page-requires : goal.check_write_page-requires
 unfolding tests
 check_write_page-requires c =
-    active-client c.args.v.now c.args.s c.args.k (accepted _ c.in-Accepted.is c.check_active.ensures)
+    active_client c.args.v.now c.args.s c.args.k (accepted _ c.in-Accepted.is c.check_active.ensures)
 
 pub returns-in-Refused : goal.returns-in-Refused
 unfolding tests

@@ -1,9 +1,9 @@
 -- `command` meets its contract: each field is an argument.
-use Rattle.commands.specs.Lines.{lineCommand}
+use Rattle.commands.specs.Lines.{line_command}
 use Rattle.commands.proofs.lines.command.Goals as goal
 
 pub returns : goal.returns
-unfolding lineCommand
+unfolding line_command
 returns c =
     let at = c.file_place-at.ensures.0 in
     rw (

@@ -3,22 +3,22 @@ use mathlib.Core.Path.{◌≡◌, ap, ◌∙◌}
 use Prim.Native.Nat.{ℕ, ◌≤◌}
 use native.Mathlib.Omega.{arith}
 use lib.ListN.{length, replicate}
-use Rattle.sector.specs.Layout.{entryLimit}
-use Rattle.sector.specs.Shapes.{filesOf}
-use Rattle.volume.specs.Format.{tableFor}
-use Rattle.sector.proofs.ShapeLaws.{files-count}
-use Rattle.format.proofs.LayoutLaws.{laid-out}
-use Rattle.format.proofs.FormatLaws.{fits-room}
+use Rattle.sector.specs.Layout.{entry_limit}
+use Rattle.sector.specs.Shapes.{files_of}
+use Rattle.volume.specs.Format.{table_for}
+use Rattle.sector.proofs.ShapeLaws.{files_count}
+use Rattle.format.proofs.LayoutLaws.{laid_out}
+use Rattle.format.proofs.FormatLaws.{fits_room}
 use Rattle.format.proofs.layout.lay_out.Goals as goal
 
 pub put_table-requires : goal.put_table-requires
 put_table-requires c =
-    let room = fits-room (length c.args.v.now) c.args.clients c.args.shape.now c.requires in
+    let room = fits_room (length c.args.v.now) c.args.clients c.args.shape.now c.requires in
     (omega arith, omega arith, c.requires.short)
 
 pub put_records-requires : goal.put_records-requires
 put_records-requires c =
-    let room = fits-room (length c.args.v.now) c.args.clients c.args.shape.now c.requires in
+    let room = fits_room (length c.args.v.now) c.args.clients c.args.shape.now c.requires in
     (omega arith, omega arith)
 
 pub returns : goal.returns
@@ -27,7 +27,7 @@ returns c =
     let l = c.args.shape.now in
     let zeros = c.clear.ensures ∙ ap (λ (m : ℕ). replicate {A = ℕ} m 0) c.requires.size in
     let kept : length c.clear.new.v ≡ n = omega arith in
-    let few : length (filesOf l) ≤ entryLimit = omega (arith, files-count l) in
-    laid-out (tableFor n c.args.clients l) c.clear.new.v c.put_records.new.v c.put_files.new.v
+    let few : length (files_of l) ≤ entry_limit = omega (arith, files_count l) in
+    laid_out (table_for n c.args.clients l) c.clear.new.v c.put_records.new.v c.put_files.new.v
     zeros few c.requires.files c.requires.ends
     (rw (c.wide.ensures.0, c.put_table.ensures, kept) at c.put_records.ensures.puts) (rw c.wide-2.ensures.0 at c.put_files.ensures)

@@ -5,47 +5,47 @@ use mathlib.Core.List.{[]}
 use Prim.Native.Nat.{◌*◌, ◌/◌, ◌<◌}
 use native.Mathlib.Omega.{arith}
 use lib.ListN.{length, drop}
-use Rattle.sector.specs.Shapes.{filesOf}
-use Rattle.volume.specs.Format.{newFiles}
-use Rattle.sector.proofs.PutsLaws.{puts-zeros}
-use Rattle.sector.proofs.ShapeLaws.{files-end}
-use Rattle.format.proofs.RequestLaws.{rest-fits, after-turn}
-use Rattle.format.proofs.LayoutLaws.{files-turn, file-room, file-pages, file-slots}
+use Rattle.sector.specs.Shapes.{files_of}
+use Rattle.volume.specs.Format.{new_files}
+use Rattle.sector.proofs.PutsLaws.{puts_zeros}
+use Rattle.sector.proofs.ShapeLaws.{files_end}
+use Rattle.format.proofs.RequestLaws.{rest_fits, after_turn}
+use Rattle.format.proofs.LayoutLaws.{files_turn, file_room, file_pages, file_slots}
 use Rattle.format.proofs.layout.put_files.Goals as goal
 
 pub put_header-requires : goal.put_header-requires
 put_header-requires c =
     let l = c.args.shape.now in
     let lt : c.loop-i.i < length l / 2 = omega arith in
-    let room = file-room l c.loop-i.i c.loop-i.h (length c.args.v.now) lt c.loop-i.invariant.3 in
-    (omega arith, omega arith, c.requires.2, lt, file-pages l c.loop-i.i lt c.loop-i.invariant.4, file-slots l c.loop-i.i lt c.loop-i.invariant.4)
+    let room = file_room l c.loop-i.i c.loop-i.h (length c.args.v.now) lt c.loop-i.invariant.3 in
+    (omega arith, omega arith, c.requires.2, lt, file_pages l c.loop-i.i lt c.loop-i.invariant.4, file_slots l c.loop-i.i lt c.loop-i.invariant.4)
 
 pub overflow_add-h : goal.overflow_add-h
 overflow_add-h c =
-    let room = file-room c.args.shape.now c.loop-i.i c.loop-i.h (length c.args.v.now) (omega arith) c.loop-i.invariant.3 in
+    let room = file_room c.args.shape.now c.loop-i.i c.loop-i.h (length c.args.v.now) (omega arith) c.loop-i.invariant.3 in
     omega arith
 
 pub overflow_add-h-in-loop-i : goal.overflow_add-h-in-loop-i
 overflow_add-h-in-loop-i c =
-    let room = file-room c.args.shape.now c.loop-i.i c.loop-i.h (length c.args.v.now) (omega arith) c.loop-i.invariant.3 in
+    let room = file_room c.args.shape.now c.loop-i.i c.loop-i.h (length c.args.v.now) (omega arith) c.loop-i.invariant.3 in
     omega arith
 
 pub loop-i-preserved : goal.loop-i-preserved
 loop-i-preserved c =
     let l = c.args.shape.now in
     let lt : c.loop-i.i < length l / 2 = omega arith in
-    let turn = files-turn l c.loop-i.i c.loop-i.h c.loop-i.v lt c.loop-i.invariant.4 in (
+    let turn = files_turn l c.loop-i.i c.loop-i.h c.loop-i.v lt c.loop-i.invariant.4 in (
       omega arith,
       refl,
       omega arith,
-      rw (c.wide.ensures.0, after-turn l c.loop-i.i c.loop-i.h lt) c.loop-i.invariant.3,
-      rest-fits l c.loop-i.i lt c.loop-i.invariant.4,
+      rw (c.wide.ensures.0, after_turn l c.loop-i.i c.loop-i.h lt) c.loop-i.invariant.3,
+      rest_fits l c.loop-i.i lt c.loop-i.invariant.4,
       rw (c.wide.ensures.0, c.put_header.ensures) (λ w x. c.loop-i.invariant.5 w (turn w x)),
     )
 
 pub returns : goal.returns
-unfolding newFiles
+unfolding new_files
 returns c =
     let l = c.args.shape.now in
-    let z : drop c.loop-i.i (filesOf l) ≡ [] = files-end l c.loop-i.i (omega arith) in
-    c.loop-i.invariant.5 c.loop-i.v (rw z (puts-zeros (256 * c.loop-i.h) 0 c.loop-i.v))
+    let z : drop c.loop-i.i (files_of l) ≡ [] = files_end l c.loop-i.i (omega arith) in
+    c.loop-i.invariant.5 c.loop-i.v (rw z (puts_zeros (256 * c.loop-i.h) 0 c.loop-i.v))

@@ -6,18 +6,18 @@ use mathlib.Core.List.{List}
 use Prim.Native.Nat.{ℕ, ◌*◌, ◌-◌, ◌/◌, ◌≤◌}
 use lib.ListN.{length, drop}
 use Rattle.lists.specs.Lists.{every}
-use Rattle.volume.specs.Places.{sectorAfter}
-use Rattle.volume.specs.Lawful.{fileFits}
-use Rattle.sector.specs.Shapes.{filesOf}
-use Rattle.volume.specs.Format.{newFiles}
+use Rattle.volume.specs.Places.{sector_after}
+use Rattle.volume.specs.Lawful.{file_fits}
+use Rattle.sector.specs.Shapes.{files_of}
+use Rattle.volume.specs.Format.{new_files}
 use Rattle.sector.specs.Puts.{Puts}
 use Rattle.format.proofs.layout.put_files.Given as goal
 
 abbrev pub invariant-loop-i : goal.invariant-loop-i
 invariant-loop-i l =
-    (l.i ≤ l.n) × (l.n ≡ length l.shape / 2) × (length l.v ≡ length l.initial.v) × (256 * sectorAfter l.h (drop l.i (filesOf l.shape)) ≤ length l.initial.v)
-    × (every fileFits (drop l.i (filesOf l.shape)) ≡ true)
-    × ((w : List ℕ) → Puts (256 * l.h) (newFiles (drop l.i (filesOf l.shape))) l.v w → Puts (256 * l.first) (newFiles (filesOf l.shape)) l.initial.v w)
+    (l.i ≤ l.n) × (l.n ≡ length l.shape / 2) × (length l.v ≡ length l.initial.v) × (256 * sector_after l.h (drop l.i (files_of l.shape)) ≤ length l.initial.v)
+    × (every file_fits (drop l.i (files_of l.shape)) ≡ true)
+    × ((w : List ℕ) → Puts (256 * l.h) (new_files (drop l.i (files_of l.shape))) l.v w → Puts (256 * l.first) (new_files (files_of l.shape)) l.initial.v w)
 
 abbrev pub decreases-loop-i : goal.decreases-loop-i
 decreases-loop-i l =

@@ -4,8 +4,8 @@ use mathlib.Core.Path.{◌≡◌}
 use mathlib.Core.List.{List}
 use Prim.Native.Nat.{ℕ, ◌+◌, ◌*◌, ◌-◌, ◌≤◌}
 use lib.ListN.{length}
-use Rattle.sector.specs.Contents.{idleRecord}
-use Rattle.sector.specs.Encoding.{encodeRecord}
+use Rattle.sector.specs.Contents.{idle_record}
+use Rattle.sector.specs.Encoding.{encode_record}
 use Rattle.volume.specs.Format.{repeated}
 use Rattle.sector.specs.Puts.{Puts}
 use Rattle.format.proofs.layout.put_records.Given as goal
@@ -13,8 +13,8 @@ use Rattle.format.proofs.layout.put_records.Given as goal
 abbrev pub invariant-loop-k : goal.invariant-loop-k
 invariant-loop-k l =
     (1 ≤ l.k) × (l.k ≤ l.clients + 1) × (length l.v ≡ length l.initial.v)
-    × ((w : List ℕ) → Puts (256 * l.k) (repeated (l.clients + 1 - l.k) (encodeRecord idleRecord)) l.v w
-    → Puts 256 (repeated l.clients (encodeRecord idleRecord)) l.initial.v w)
+    × ((w : List ℕ) → Puts (256 * l.k) (repeated (l.clients + 1 - l.k) (encode_record idle_record)) l.v w
+    → Puts 256 (repeated l.clients (encode_record idle_record)) l.initial.v w)
 
 abbrev pub decreases-loop-k : goal.decreases-loop-k
 decreases-loop-k l =

@@ -3,32 +3,32 @@ use mathlib.Core.Path.{◌≡◌}
 use Prim.Native.Nat.{◌+◌, ◌*◌}
 use native.Mathlib.Omega.{arith}
 use lib.ListN.{drop, length-drop}
-use Rattle.replay.specs.Scripts.{stepSize}
-use Rattle.replay.specs.Walks.{stepLength}
-use Rattle.replay.proofs.ScriptLaws.{short-none, cut-none, fits-whole, byte-at}
+use Rattle.replay.specs.Scripts.{step_size}
+use Rattle.replay.specs.Walks.{step_length}
+use Rattle.replay.proofs.ScriptLaws.{short_none, cut_none, fits_whole, byte_at}
 use Rattle.replay.proofs.steps.step_length.Goals as goal
 
 pub returns-then-left-lt-HEAD : goal.returns-then-left-lt-HEAD
-unfolding stepLength
+unfolding step_length
 returns-then-left-lt-HEAD c =
     let l = c.args.script.now in
     let at = c.args.at in
-    (rw (short-none (drop at l) (omega (arith, length-drop at l))), omega (arith, c.requires))
+    (rw (short_none (drop at l) (omega (arith, length-drop at l))), omega (arith, c.requires))
 
 pub returns-then-left-n : goal.returns-then-left-n
-unfolding stepLength
+unfolding step_length
 returns-then-left-n c =
     let l = c.args.script.now in
     let at = c.args.at in
-    let e : stepSize (drop at l) ≡ 8 + (c.wide.result + 256 * c.wide-2.result) =
-    rw (byte-at l at 6, byte-at l at 7, c.wide.ensures.0, c.wide-2.ensures.0) in
-    (rw (cut-none (drop at l) (omega (arith, length-drop at l)) (omega (arith, length-drop at l, e))), omega (arith, c.requires))
+    let e : step_size (drop at l) ≡ 8 + (c.wide.result + 256 * c.wide-2.result) =
+    rw (byte_at l at 6, byte_at l at 7, c.wide.ensures.0, c.wide-2.ensures.0) in
+    (rw (cut_none (drop at l) (omega (arith, length-drop at l)) (omega (arith, length-drop at l, e))), omega (arith, c.requires))
 
 pub returns : goal.returns
-unfolding stepLength
+unfolding step_length
 returns c =
     let l = c.args.script.now in
     let at = c.args.at in
-    let e : stepSize (drop at l) ≡ 8 + (c.wide.result + 256 * c.wide-2.result) =
-    rw (byte-at l at 6, byte-at l at 7, c.wide.ensures.0, c.wide-2.ensures.0) in
-    (rw (fits-whole (drop at l) (omega (arith, length-drop at l)) (omega (arith, length-drop at l, e)), e), omega arith)
+    let e : step_size (drop at l) ≡ 8 + (c.wide.result + 256 * c.wide-2.result) =
+    rw (byte_at l at 6, byte_at l at 7, c.wide.ensures.0, c.wide-2.ensures.0) in
+    (rw (fits_whole (drop at l) (omega (arith, length-drop at l)) (omega (arith, length-drop at l, e)), e), omega arith)

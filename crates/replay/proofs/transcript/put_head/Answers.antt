@@ -1,10 +1,10 @@
 -- `put_head` meets its contract: kind, number and session, one behind the other.
-use Rattle.text.proofs.WritesLaws.{wrote-more}
-use Rattle.replay.specs.Transcripts.{headBytes}
-use Rattle.replay.proofs.TranscriptLaws.{wrote-byte}
+use Rattle.text.proofs.WritesLaws.{wrote_more}
+use Rattle.replay.specs.Transcripts.{head_bytes}
+use Rattle.replay.proofs.TranscriptLaws.{wrote_byte}
 use Rattle.replay.proofs.transcript.put_head.Goals as goal
 
 pub returns : goal.returns
-unfolding headBytes
+unfolding head_bytes
 returns c =
-    wrote-more (wrote-byte c.args.out.now c.args.at c.args.kind) (wrote-more c.put_word-next.ensures c.put_session.ensures)
+    wrote_more (wrote_byte c.args.out.now c.args.at c.args.kind) (wrote_more c.put_word-next.ensures c.put_session.ensures)

@@ -1,9 +1,9 @@
 -- `put_nothing` meets its contract: zeros twice.
-use Rattle.text.proofs.WritesLaws.{wrote-more}
-use Rattle.replay.proofs.TranscriptLaws.{zeros-padded}
+use Rattle.text.proofs.WritesLaws.{wrote_more}
+use Rattle.replay.proofs.TranscriptLaws.{zeros_padded}
 use Rattle.replay.proofs.transcript.put_nothing.Goals as goal
 
 pub returns : goal.returns
 returns c =
     let z = c.zeros-zeros.ensures.0 in
-    rw (zeros-padded) (wrote-more (rw z at c.put-next.ensures) (rw z at c.put.ensures))
+    rw (zeros_padded) (wrote_more (rw z at c.put-next.ensures) (rw z at c.put.ensures))

@@ -3,7 +3,7 @@ use mathlib.Core.Path.{sym, ◌∙◌}
 use borrow.Author.Rules.{rules}
 use native.Mathlib.Omega.{arith}
 use Rattle.script.specs.Kinds.{rows}
-use Rattle.script.proofs.KindLaws.{kind-here, kind-later, kind-none}
+use Rattle.script.proofs.KindLaws.{kind_here, kind_later, kind_none}
 use Rattle.script.proofs.kinds.kind.Goals as goal
 
 pub row_at-x-requires : goal.row_at-x-requires
@@ -12,15 +12,15 @@ row_at-x-requires c = search rules
 
 pub returns-then-fits : goal.returns-then-fits
 returns-then-fits c =
-    sym (kind-here rows _ _ c.loop-i.i c.loop-i.invariant.1 c.row_at-x.result c.row_at-x.ensures (sym c.fits.ensures ∙ c.if-fits.true))
+    sym (kind_here rows _ _ c.loop-i.i c.loop-i.invariant.1 c.row_at-x.result c.row_at-x.ensures (sym c.fits.ensures ∙ c.if-fits.true))
 
 pub loop-i-preserved : goal.loop-i-preserved
 loop-i-preserved c = (
   omega arith,
-  kind-later rows _ _ c.loop-i.i c.loop-i.invariant.1 c.row_at-x.result c.row_at-x.ensures
+  kind_later rows _ _ c.loop-i.i c.loop-i.invariant.1 c.row_at-x.result c.row_at-x.ensures
       (sym c.fits.ensures ∙ c.if-fits.false),
 )
 
 pub returns : goal.returns
 unfolding rows
-returns c = sym (kind-none rows _ _ c.loop-i.i c.loop-i.invariant.1 (omega arith))
+returns c = sym (kind_none rows _ _ c.loop-i.i c.loop-i.invariant.1 (omega arith))

@@ -1,6 +1,6 @@
 -- `row_at` meets its contract: the program's rows are the table's.
 use borrow.Author.Rules.{rules}
-use Rattle.lists.proofs.TestLaws.{drop-next}
+use Rattle.lists.proofs.TestLaws.{drop_next}
 use Rattle.script.specs.Kinds.{rows}
 use Rattle.script.proofs.kinds.row_at.Goals as goal
 
@@ -14,4 +14,4 @@ bounds-i-i c = search rules
 
 pub returns : goal.returns
 unfolding rows
-returns c = drop-next rows c.args.i _ (search rules)
+returns c = drop_next rows c.args.i _ (search rules)

@@ -2,7 +2,7 @@
 use mathlib.Core.Path.{sym, ◌∙◌}
 use native.Mathlib.Omega.{arith}
 use lib.ListN.{length-set}
-use Rattle.script.proofs.TextLaws.{hex-more, hex-done}
+use Rattle.script.proofs.TextLaws.{hex_more, hex_done}
 use Rattle.script.proofs.texts.put_hex.Goals as goal
 
 pub loop-i-preserved : goal.loop-i-preserved
@@ -10,8 +10,8 @@ loop-i-preserved c = (
   omega arith,
   simp length-set c.loop-i.invariant.1,
   rw (c.hex_digit.ensures, c.high.ensures.0, c.hex_digit-in-loop-i.ensures)
-      (hex-more c.args.bytes.now c.loop-i.out c.loop-i.i (omega arith)) ∙ c.loop-i.invariant.2,
+      (hex_more c.args.bytes.now c.loop-i.out c.loop-i.i (omega arith)) ∙ c.loop-i.invariant.2,
 )
 
 pub returns : goal.returns
-returns c = sym (hex-done c.args.bytes.now c.loop-i.out c.loop-i.i (omega arith)) ∙ c.loop-i.invariant.2
+returns c = sym (hex_done c.args.bytes.now c.loop-i.out c.loop-i.i (omega arith)) ∙ c.loop-i.invariant.2

@@ -3,13 +3,13 @@ use mathlib.Core.Path.{◌≡◌}
 use Prim.Native.Nat.{◌*◌, ◌-◌, ◌≤◌}
 use lib.ListN.{length, drop}
 use lib.Seq.{sets}
-use Rattle.script.specs.Texts.{hexText}
+use Rattle.script.specs.Texts.{hex_text}
 use Rattle.script.proofs.texts.put_hex.Given as goal
 
 abbrev pub invariant-loop-i : goal.invariant-loop-i
 invariant-loop-i l =
     (l.i ≤ length l.bytes) × (length l.out ≡ length l.initial.out)
-    × (sets l.out (2 * l.i) (hexText (drop l.i l.bytes)) ≡ sets l.initial.out 0 (hexText l.bytes))
+    × (sets l.out (2 * l.i) (hex_text (drop l.i l.bytes)) ≡ sets l.initial.out 0 (hex_text l.bytes))
 
 abbrev pub decreases-loop-i : goal.decreases-loop-i
 decreases-loop-i l = length l.bytes - l.i

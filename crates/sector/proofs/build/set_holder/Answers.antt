@@ -1,6 +1,6 @@
 -- `set_holder` meets its contract, by the law of a stored holder.
-use Rattle.sector.proofs.EditLaws.{header-holder}
+use Rattle.sector.proofs.EditLaws.{header_holder}
 use Rattle.sector.proofs.build.set_holder.Goals as goal
 
 pub returns-clause-buf_after : goal.returns-clause-buf_after
-returns-clause-buf_after c = λ x h q. rw q (header-holder x h c.args.k)
+returns-clause-buf_after c = λ x h q. rw q (header_holder x h c.args.k)

@@ -1,6 +1,6 @@
 -- `set_map_slot` meets its contract, by the law of a stored map byte.
-use Rattle.sector.proofs.EditLaws.{header-map}
+use Rattle.sector.proofs.EditLaws.{header_map}
 use Rattle.sector.proofs.build.set_map_slot.Goals as goal
 
 pub returns-clause-buf_after : goal.returns-clause-buf_after
-returns-clause-buf_after c = λ x h q low. rw q (header-map x h c.args.p c.args.slot low)
+returns-clause-buf_after c = λ x h q low. rw q (header_map x h c.args.p c.args.slot low)

@@ -1,8 +1,8 @@
--- `zeros` meets its contract: the array written out is `zeroSector`, by computation.
+-- `zeros` meets its contract: the array written out is `zero_sector`, by computation.
 use mathlib.Core.Path.{refl}
-use Rattle.sector.specs.Sectors.{zeroSector}
+use Rattle.sector.specs.Sectors.{zero_sector}
 use Rattle.sector.proofs.build.zeros.Goals as goal
 
 pub returns : goal.returns
-unfolding zeroSector
+unfolding zero_sector
 returns c = (refl, refl)

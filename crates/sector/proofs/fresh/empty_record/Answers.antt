@@ -1,6 +1,6 @@
 -- `empty_record` meets its contract: three bytes stored in a sector of zeros make the encoding of a record without entries.
-use Rattle.sector.proofs.EditLaws.{record-empty}
+use Rattle.sector.proofs.EditLaws.{record_empty}
 use Rattle.sector.proofs.fresh.empty_record.Goals as goal
 
 pub returns-clause-buf_after : goal.returns-clause-buf_after
-returns-clause-buf_after c = rw (c.requires, record-empty c.args.state)
+returns-clause-buf_after c = rw (c.requires, record_empty c.args.state)

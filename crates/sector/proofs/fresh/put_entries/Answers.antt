@@ -4,23 +4,23 @@ use mathlib.Core.Path.{◌≡◌, refl}
 use mathlib.Core.List.{[]}
 use native.Mathlib.Omega.{arith}
 use lib.ListN.{drop}
-use Rattle.sector.specs.Layout.{itemOffset}
-use Rattle.sector.specs.Encoding.{fileBytes}
-use Rattle.sector.specs.Shapes.{filesOf}
-use Rattle.sector.proofs.PutsLaws.{puts-zeros}
-use Rattle.sector.proofs.ShapeLaws.{files-end}
-use Rattle.sector.proofs.FreshLaws.{entries-turn}
+use Rattle.sector.specs.Layout.{item_offset}
+use Rattle.sector.specs.Encoding.{file_bytes}
+use Rattle.sector.specs.Shapes.{files_of}
+use Rattle.sector.proofs.PutsLaws.{puts_zeros}
+use Rattle.sector.proofs.ShapeLaws.{files_end}
+use Rattle.sector.proofs.FreshLaws.{entries_turn}
 use Rattle.sector.proofs.fresh.put_entries.Goals as goal
 
 pub loop-i-preserved : goal.loop-i-preserved
 loop-i-preserved c =
     let l = c.args.shape.now in
-    let turn = entries-turn l c.loop-i.i c.loop-i.h c.loop-i.buf _ (omega arith) c.put_entry.ensures.puts in
+    let turn = entries_turn l c.loop-i.i c.loop-i.h c.loop-i.buf _ (omega arith) c.put_entry.ensures.puts in
     (omega arith, refl, omega arith, c.put_entry.ensures.buf_len, rw c.wide.ensures.0 (λ w x. c.loop-i.invariant.4 w (turn w x)))
 
 pub returns-clause-puts : goal.returns-clause-puts
-unfolding fileBytes
+unfolding file_bytes
 returns-clause-puts c =
     let l = c.args.shape.now in
-    let z : drop c.loop-i.i (filesOf l) ≡ [] = files-end l c.loop-i.i (omega arith) in
-    c.loop-i.invariant.4 _ (rw z (puts-zeros (itemOffset c.loop-i.i) 0 c.loop-i.buf))
+    let z : drop c.loop-i.i (files_of l) ≡ [] = files_end l c.loop-i.i (omega arith) in
+    c.loop-i.invariant.4 _ (rw z (puts_zeros (item_offset c.loop-i.i) 0 c.loop-i.buf))

@@ -3,16 +3,16 @@ use mathlib.Core.Path.{◌≡◌}
 use mathlib.Core.List.{List}
 use Prim.Native.Nat.{ℕ, ◌+◌, ◌*◌, ◌-◌, ◌/◌, ◌≤◌}
 use lib.ListN.{length, drop}
-use Rattle.sector.specs.Layout.{itemsOffset, itemOffset}
-use Rattle.sector.specs.Encoding.{fileBytes}
-use Rattle.sector.specs.Shapes.{filesOf}
+use Rattle.sector.specs.Layout.{items_offset, item_offset}
+use Rattle.sector.specs.Encoding.{file_bytes}
+use Rattle.sector.specs.Shapes.{files_of}
 use Rattle.sector.specs.Puts.{Puts}
 use Rattle.sector.proofs.fresh.put_entries.Given as goal
 
 abbrev pub invariant-loop-i : goal.invariant-loop-i
 invariant-loop-i l =
     (l.i ≤ l.n) × (l.n ≡ length l.shape / 2) × (l.h ≤ 256 + 256 * l.i) × (length l.buf ≡ 256)
-    × ((w : List ℕ) → Puts (itemOffset l.i) (fileBytes l.h (drop l.i (filesOf l.shape))) l.buf w → Puts itemsOffset (fileBytes l.first (filesOf l.shape)) l.initial.buf w)
+    × ((w : List ℕ) → Puts (item_offset l.i) (file_bytes l.h (drop l.i (files_of l.shape))) l.buf w → Puts items_offset (file_bytes l.first (files_of l.shape)) l.initial.buf w)
 
 abbrev pub decreases-loop-i : goal.decreases-loop-i
 decreases-loop-i l = l.n - l.i

@@ -4,10 +4,10 @@ use mathlib.Core.Bool.{◌&&◌}
 use Prim.Native.Nat.{◌-◌}
 use lib.Dec.{eqb}
 use lib.ListN.{drop}
-use Rattle.sector.specs.Layout.{itemsOffset, itemOffset}
-use Rattle.sector.specs.Encoded.{entriesClosed}
+use Rattle.sector.specs.Layout.{items_offset, item_offset}
+use Rattle.sector.specs.Encoded.{entries_closed}
 use Rattle.sector.proofs.recognize.entries_closed.Given as goal
 
 abbrev pub invariant-loop-i : goal.invariant-loop-i
 invariant-loop-i l =
-    entriesClosed l.n (drop itemsOffset l.d) ≡ (eqb l.bits 0 && entriesClosed (l.n - l.i) (drop (itemOffset l.i) l.d))
+    entries_closed l.n (drop items_offset l.d) ≡ (eqb l.bits 0 && entries_closed (l.n - l.i) (drop (item_offset l.i) l.d))

@@ -3,17 +3,17 @@ use mathlib.Core.Path.{refl, sym, ◌∙◌}
 use mathlib.Core.Bool.{not, ◌&&◌, or-false}
 use borrow.Author.Tests.{eq-eqb}
 use lib.Dec.{eqb}
-use Rattle.rules.specs.Sessions.{isReading, isReadByOther}
-use Rattle.rules.proofs.SessionLaws.{none-reading, none-read}
+use Rattle.rules.specs.Sessions.{is_reading, is_read_by_other}
+use Rattle.rules.proofs.SessionLaws.{none_reading_lem, none_read}
 use Rattle.sessions.proofs.holds.is_read_by_other.Goals as goal
 
 pub returns-then-all_holds-eq0 : goal.returns-then-all_holds-eq0
 returns-then-all_holds-eq0 c =
-    sym (none-read c.args.s c.args.k c.args.f
-    (λ j lo hi. none-reading c.args.s (sym c.all_holds.ensures ∙ eq-eqb _ 0 c.if-all_holds-eq0.true) j c.args.f lo hi))
+    sym (none_read c.args.s c.args.k c.args.f
+    (λ j lo hi. none_reading_lem c.args.s (sym c.all_holds.ensures ∙ eq-eqb _ 0 c.if-all_holds-eq0.true) j c.args.f lo hi))
 
 pub returns : goal.returns
-unfolding isReadByOther
+unfolding is_read_by_other
 returns c =
     rw (
       c.reads_beside-3.ensures,
@@ -21,4 +21,4 @@ returns c =
       c.reads_beside.ensures,
       c.reads_beside-2.ensures,
     )
-    (sym (rw (or-false (not (eqb 4 c.args.k) && isReading c.args.s 4 c.args.f)) refl))
+    (sym (rw (or-false (not (eqb 4 c.args.k) && is_reading c.args.s 4 c.args.f)) refl))

@@ -5,28 +5,28 @@ use mathlib.Core.Logic.{◌≢◌}
 use Prim.Native.Nat.{ℕ, ◌-◌, ◌+◌, ◌/◌, ◌^◌, ◌≤◌, ◌<◌}
 use native.Mathlib.Omega.{arith}
 use lib.Pow.{shr-shr}
-use Rattle.lists.proofs.CaseLaws.{by-equal}
-use Rattle.lists.proofs.ListLaws.{every-all}
-use Rattle.lists.proofs.TestLaws.{numbers-more, numbers-fail}
-use Rattle.byteset.proofs.BitLaws.{none-above}
-use Rattle.rules.specs.Sessions.{filesRead, isReading, clientHoldsFit}
+use Rattle.lists.proofs.CaseLaws.{by_equal}
+use Rattle.lists.proofs.ListLaws.{every_all}
+use Rattle.lists.proofs.TestLaws.{numbers_more, numbers_fail}
+use Rattle.byteset.proofs.BitLaws.{none_above}
+use Rattle.rules.specs.Sessions.{files_read, is_reading, client_holds_fit}
 use Rattle.sessions.proofs.holds_fit.client_holds_fit.Goals as goal
 
 -- The bits of the word from file f on.
-abbrev bitsFrom : ℕ → ℕ → ℕ
-bitsFrom w f = w / 2 ^ (f - 1)
+abbrev bits_from : ℕ → ℕ → ℕ
+bits_from w f = w / 2 ^ (f - 1)
 
 -- One of them is left, so f is a file; and without f's bit they are those from the next file on.
-some-left : (w f left : ℕ) → w < 2 ^ 16 → f ≤ 17 → left ≡ bitsFrom w f → left ≢ 0 → f < 17
-some-left w f left h hi e n = by-equal f 17 (λ q. absurd (n (e ∙ rw q (omega (arith, h))))) (λ q. omega (arith, q))
+some_left : (w f left : ℕ) → w < 2 ^ 16 → f ≤ 17 → left ≡ bits_from w f → left ≢ 0 → f < 17
+some_left w f left h hi e n = by_equal f 17 (λ q. absurd (n (e ∙ rw q (omega (arith, h))))) (λ q. omega (arith, q))
 
-next-left : (w f : ℕ) → 1 ≤ f → bitsFrom w f / 2 ^ 1 ≡ bitsFrom w (f + 1)
-next-left w f lo =
+next_left : (w f : ℕ) → 1 ≤ f → bits_from w f / 2 ^ 1 ≡ bits_from w (f + 1)
+next_left w f lo =
     let e : f - 1 + 1 ≡ f + 1 - 1 = omega arith in
     shr-shr w (f - 1) 1 ∙ ap (λ (x : ℕ). w / 2 ^ x) e
 
 pub loop-left-init : goal.loop-left-init
-unfolding clientHoldsFit
+unfolding client_holds_fit
 loop-left-init c =
     let w = c.number_of-left.ensures in
     let at = c.wide-at.ensures.0 in
@@ -35,23 +35,23 @@ loop-left-init c =
 pub returns-then-not-noted_fits : goal.returns-then-not-noted_fits
 returns-then-not-noted_fits c =
     let at = c.loop-left in
-    let file : at.f < 17 = some-left _ at.f _ at.invariant.2 at.invariant.1 at.invariant.3 c.loop-left-test.true in
-    sym (numbers-fail _ _ 17 at.f at.invariant.4 file (sym c.noted_fits.ensures ∙ c.if-not-noted_fits.true))
+    let file : at.f < 17 = some_left _ at.f _ at.invariant.2 at.invariant.1 at.invariant.3 c.loop-left-test.true in
+    sym (numbers_fail _ _ 17 at.f at.invariant.4 file (sym c.noted_fits.ensures ∙ c.if-not-noted_fits.true))
 
 pub loop-left-preserved : goal.loop-left-preserved
 loop-left-preserved c =
     let at = c.loop-left in
-    let file : at.f < 17 = some-left _ at.f _ at.invariant.2 at.invariant.1 at.invariant.3 c.loop-left-test.true in (
+    let file : at.f < 17 = some_left _ at.f _ at.invariant.2 at.invariant.1 at.invariant.3 c.loop-left-test.true in (
       omega arith,
       omega (arith, file),
       at.invariant.2,
-      ap (λ (x : ℕ). x / 2 ^ 1) at.invariant.3 ∙ next-left _ at.f at.invariant.0,
-      numbers-more _ _ 17 at.f at.invariant.4 file (sym c.noted_fits.ensures ∙ c.if-not-noted_fits.false),
+      ap (λ (x : ℕ). x / 2 ^ 1) at.invariant.3 ∙ next_left _ at.f at.invariant.0,
+      numbers_more _ _ 17 at.f at.invariant.4 file (sym c.noted_fits.ensures ∙ c.if-not-noted_fits.false),
     )
 
 pub returns : goal.returns
-unfolding isReading
+unfolding is_reading
 returns c =
     let at = c.loop-left in
-    let z : bitsFrom (filesRead c.args.s c.args.k) at.f ≡ 0 = sym at.invariant.3 ∙ c.loop-left-test.false in
-    sym (at.invariant.4 ∙ every-all _ (17 - at.f) at.f (λ g lo hi. rw (none-above _ (at.f - 1) (g - 1) z (omega (arith, lo)))))
+    let z : bits_from (files_read c.args.s c.args.k) at.f ≡ 0 = sym at.invariant.3 ∙ c.loop-left-test.false in
+    sym (at.invariant.4 ∙ every_all _ (17 - at.f) at.f (λ g lo hi. rw (none_above _ (at.f - 1) (g - 1) z (omega (arith, lo)))))

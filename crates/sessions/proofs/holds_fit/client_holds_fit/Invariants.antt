@@ -3,13 +3,13 @@
 use Rattle.std.proofs.Common.{◌≡◌, not, ◌||◌, ◌≤◌, ◌-◌, ◌<◌, ◌/◌, ◌^◌}
 use Rattle.lists.specs.Lists.{every, from}
 use Rattle.volume.specs.Volumes.{view}
-use Rattle.rules.specs.Sessions.{filesRead, isReading, holdFits, clientHoldsFit}
+use Rattle.rules.specs.Sessions.{files_read, is_reading, hold_fits, client_holds_fit}
 use Rattle.sessions.proofs.holds_fit.client_holds_fit.Given as goal
 
 abbrev pub invariant-loop-left : goal.invariant-loop-left
 invariant-loop-left l =
-    (1 ≤ l.f) × (l.f ≤ 17) × (filesRead l.s l.k < 2 ^ 16) × (l.left ≡ filesRead l.s l.k / 2 ^ (l.f - 1))
-    × (clientHoldsFit (view l.v) l.s l.k ≡ every (λ g. not (isReading l.s l.k g) || holdFits (view l.v) l.s l.k g) (from l.f (17 - l.f)))
+    (1 ≤ l.f) × (l.f ≤ 17) × (files_read l.s l.k < 2 ^ 16) × (l.left ≡ files_read l.s l.k / 2 ^ (l.f - 1))
+    × (client_holds_fit (view l.v) l.s l.k ≡ every (λ g. not (is_reading l.s l.k g) || hold_fits (view l.v) l.s l.k g) (from l.f (17 - l.f)))
 
 abbrev pub decreases-loop-left : goal.decreases-loop-left
 decreases-loop-left l = 17 - l.f

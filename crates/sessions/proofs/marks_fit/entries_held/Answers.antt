@@ -3,7 +3,7 @@ use Prim.Native.Nat.{◌<◌}
 use native.Mathlib.Omega.{arith}
 use lib.ListN.{length}
 use Rattle.volume.specs.Volumes.{view}
-use Rattle.volume.proofs.ReadLaws.{entry-file-is}
+use Rattle.volume.proofs.ReadLaws.{entry_file_is}
 use Rattle.sessions.proofs.marks_fit.entries_held.Goals as goal
 
 pub holder-requires : goal.holder-requires
@@ -11,5 +11,5 @@ holder-requires c =
     let lt : c.loop-i.i < length ((view c.args.v.now).records c.args.k).entries = omega arith in (
       c.requires.0,
       rw c.entry_file-f.ensures
-          (entry-file-is c.args.v.now c.requires.0 c.args.k c.loop-i.i (record { client = c.requires.1; below = lt })),
+          (entry_file_is c.args.v.now c.requires.0 c.args.k c.loop-i.i (record { client = c.requires.1; below = lt })),
     )

@@ -1,30 +1,30 @@
 -- `open_stores` meets its contract, by the file's holder: the client itself, nobody, or another client, which is recovered first.
 use Rattle.std.proofs.Common.{◌∙◌, sym}
 use Rattle.volume.specs.Volumes.{view}
-use Rattle.stores.proofs.MadeLaws.{made-none}
-use Rattle.transaction.proofs.OpenLaws.{own-plan, free-plan, holder-client, recovered-formed, open-more}
+use Rattle.stores.proofs.MadeLaws.{made_none}
+use Rattle.transaction.proofs.OpenLaws.{own_plan, free_plan, holder_client, recovered_formed, open_more}
 use Rattle.transaction.proofs.open.open_stores.Goals as goal
 
 pub returns-then-holder-k : goal.returns-then-holder-k
 returns-then-holder-k c =
-    λ t free. rw (own-plan (view c.args.v.now) t c.args.k c.args.f (sym c.holder-holder.ensures ∙ c.if-holder-k.true), c.new-start.ensures) made-none
+    λ t free. rw (own_plan (view c.args.v.now) t c.args.k c.args.f (sym c.holder-holder.ensures ∙ c.if-holder-k.true), c.new-start.ensures) made_none
 
 pub returns-then-holder-eq0 : goal.returns-then-holder-eq0
 returns-then-holder-eq0 c =
     let holder = sym c.holder-holder.ensures in
-    λ t free. rw (free-plan (view c.args.v.now) t c.args.k c.args.f (rw holder c.if-holder-k.false) (holder ∙ c.if-holder-eq0.true))
+    λ t free. rw (free_plan (view c.args.v.now) t c.args.k c.args.f (rw holder c.if-holder-k.false) (holder ∙ c.if-holder-eq0.true))
     (rw c.new-start.ensures at c.claim.ensures)
 
 pub recover-run-requires : goal.recover-run-requires
 recover-run-requires c =
-    λ going. (c.requires.0, holder-client c.requires.0 c.requires.1 c.requires.2 (sym c.holder-holder.ensures) c.if-holder-k.false c.if-holder-eq0.false)
+    λ going. (c.requires.0, holder_client c.requires.0 c.requires.1 c.requires.2 (sym c.holder-holder.ensures) c.if-holder-k.false c.if-holder-eq0.false)
 
 pub claim-requires-2 : goal.claim-requires-2
 claim-requires-2 c =
-    recovered-formed c.requires.0 c.requires.1 c.requires.2 (sym c.holder-holder.ensures) c.if-holder-k.false c.if-holder-eq0.false
+    recovered_formed c.requires.0 c.requires.1 c.requires.2 (sym c.holder-holder.ensures) c.if-holder-k.false c.if-holder-eq0.false
     c.recover-run.ensures.updates_made c.recover-run.ensures.all_made
 
 pub returns : goal.returns
 returns c =
-    open-more c.requires.0 c.requires.1 c.requires.2 (sym c.holder-holder.ensures) c.if-holder-k.false c.if-holder-eq0.false
+    open_more c.requires.0 c.requires.1 c.requires.2 (sym c.holder-holder.ensures) c.if-holder-k.false c.if-holder-eq0.false
     (rw c.new-start.ensures at c.recover-run.ensures.updates_made) c.recover-run.ensures.all_made c.claim-2.ensures

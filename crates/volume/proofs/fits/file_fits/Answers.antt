@@ -1,4 +1,4 @@
--- `fits::file_fits` meets its contract: the tests of `fileFits`.
+-- `fits::file_fits` meets its contract: the tests of `file_fits`.
 use mathlib.Core.Bool.{and-true}
 use Rattle.lists.specs.Lists.{all}
 use Rattle.volume.proofs.fits.file_fits.Goals as goal

@@ -1,10 +1,10 @@
 -- `header` meets its contract: the header's sector is inside a volume whose table is well formed.
 use native.Mathlib.Omega.{arith}
-use Rattle.volume.specs.Places.{headerPlace}
+use Rattle.volume.specs.Places.{header_place}
 use Rattle.volume.proofs.ReadLaws.{inside}
 use Rattle.volume.proofs.read.header.Goals as goal
 
 pub part-requires : goal.part-requires
 part-requires c =
     let e = c.header_sector.ensures.0 in
-    (rw e (inside c.args.v.now c.requires.0 (headerPlace c.args.f) c.requires.1), omega (arith, c.header_sector.ensures.1))
+    (rw e (inside c.args.v.now c.requires.0 (header_place c.args.f) c.requires.1), omega (arith, c.header_sector.ensures.1))

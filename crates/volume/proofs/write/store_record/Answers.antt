@@ -1,9 +1,9 @@
 -- `store_record` meets its contract: the record's sector is inside a well-formed volume, and becomes src.
 use native.Mathlib.Omega.{arith}
-use Rattle.volume.specs.Places.{recordPlace}
+use Rattle.volume.specs.Places.{record_place}
 use Rattle.volume.proofs.ReadLaws.{inside}
 use Rattle.volume.proofs.write.store_record.Goals as goal
 
 pub store-requires : goal.store-requires
 store-requires c =
-    (rw c.wide.ensures.0 (inside c.args.v.now c.requires.0.tabled (recordPlace c.args.k) (c.requires.1.low, c.requires.1.high)), omega (arith, c.wide.ensures.1), c.requires.2)
+    (rw c.wide.ensures.0 (inside c.args.v.now c.requires.0.tabled (record_place c.args.k) (c.requires.1.low, c.requires.1.high)), omega (arith, c.wide.ensures.1), c.requires.2)
