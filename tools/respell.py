@@ -9,6 +9,8 @@ A name is one of ours if a file of specs/ or of proofs/ has it, and no line impo
 a step of a function) stand in a function's proof files alone, and stay, as do Rust's, strings, inputs and outputs. Types and modules
 are in camel case already. Where a lemma would have a definition's name it gets `_lem`.
 
+Our choice `if b then x else y` is `when b then x else y`, since the kit has an `if` of its own: in .antt files, and in edits of them.
+
 Comments and pages: a name in camel case is turned wherever it stands, one with a dash only in a span of code.
 --list writes nothing, and prints the names, old and new. A second run writes nothing more.
 """
@@ -36,6 +38,7 @@ USE = re.compile(r"(?m)^\s*(?:pub |ghost )*use ([^\s;{]+)(\{[^}]*\})?")
 OF_A_FUNCTION = re.compile(r"/proofs/.+/(Answers|Invariants|Proof)\.antt$")
 # What a function's proof file declares for itself: a name with a type that is no goal.
 OWN = re.compile(r"(?m)^(?:(?:pub|abbrev|unfoldable) )*([\w'-]+)(?: [({].*)? :(?! goal\.)")
+CHOICE = re.compile(r"(?<![^\s(])if(?= )")
 SPAN = re.compile(r"`[^`\n]*`")
 
 
@@ -106,18 +109,34 @@ class Speller:
             out.append(part if n % 2 else self.turn(part))
         return "".join(out)
 
-    def edit(self, line):
-        return self.prose(line) if line.startswith("#") else self.code(line, "//|--")
+    def antt(self, line):
+        comment = re.search(r"(?<!\S)--", line)
+        at = comment.start() if comment else len(line)
+        code = CHOICE.sub("when", line[:at].replace("if◌then◌else◌", "when◌then◌else◌"))
+        return self.code(code + line[at:], "--")
+
+    def edit(self, line, of_antt):
+        if line.startswith("#"):
+            return self.prose(line)
+        return self.antt(line) if of_antt else self.code(line, "//")
+
+    def edits(self, text):
+        """An edit's lines; a line `file:` says of which file the next ones are."""
+        out, of_antt = [], False
+        for line in text.split("\n"):
+            of_antt = line.endswith(".antt") if line.startswith("file:") else of_antt
+            out.append(self.edit(line, of_antt))
+        return "\n".join(out)
 
     def page(self, text):
         fenced = re.split(r"(?m)^(```.*\n(?:.*\n)*?```.*)$", text)
         return "".join(self.turn(part) if n % 2 else self.prose(part) for n, part in enumerate(fenced))
 
     def file(self, path, text):
-        if path.endswith(".md"):
-            return self.page(text)
-        how = {".antt": lambda line: self.code(line, "--"), ".rt": lambda line: self.code(line, "//"), ".edit": self.edit}
-        return "\n".join(map(how[os.path.splitext(path)[1]], text.split("\n")))
+        if path.endswith((".md", ".edit")):
+            return self.page(text) if path.endswith(".md") else self.edits(text)
+        line = self.antt if path.endswith(".antt") else lambda line: self.code(line, "//")
+        return "\n".join(map(line, text.split("\n")))
 
 
 # Fields of the volume's WellFormed that are named as definitions: a field is no lemma, and keeps the plain name.

@@ -11,7 +11,7 @@ use native.Mathlib.Omega.{arith}
 use borrow.Author.Tests.{ne_eqb, ltb-true, ltb-false}
 use lib.Bits.{bit_and, bit_or, and_mask, and_step, and_high, or_shr, or_mod}
 use lib.Dec.{eqb, ltb}
-use lib.Pow.{pow-add, pow_pos, pow-lt, shl-shr, shr-shr, shr_le, high}
+use lib.Pow.{pow-add, pow_pos, pow-lt, shl-shr, shr-shr, shr_le, high, shl_exact}
 use Rattle.lists.proofs.CaseLaws.{by_test, by_equal}
 use Rattle.lists.proofs.SearchLaws.{or_true}
 use Rattle.lists.proofs.TestLaws.{not_and, or_zero}
@@ -77,6 +77,12 @@ none_above w i j z h =
     let le : 0 / 2 ^ (j - i) ≤ 0 = shr_le 0 (j - i) in
     let q : w / 2 ^ j ≡ 0 = ap (λ (x : ℕ). w / 2 ^ x) m ∙ sym (shr-shr w i (j - i)) ∙ rw z (omega (arith, le)) in
     bit_is w j ∙ rw q
+
+-- In a word of w bits 1 is shifted to bit i, and none is lost.
+pub one_shifted : (i w : ℕ) → i < w → 1 * 2 ^ i % 2 ^ w ≡ 2 ^ i
+one_shifted i w h =
+    let z : 1 * 2 ^ i ≡ 2 ^ i = omega arith in
+    shl_exact {a = 1} 1 i w (omega arith) (omega arith) ∙ z
 
 -- ------------------------------------------------------------------ by halves
 -- The lowest bit, and those above it in the word's half.

@@ -3,7 +3,7 @@ use mathlib.Core.Path.{◌≡◌, refl, sym, ap}
 use mathlib.Core.Bool.{Bool, true, false, ◌||◌}
 use mathlib.Core.List.{List}
 use mathlib.Core.Logic.{◌≢◌}
-use Prim.Native.Nat.{ℕ, ◌/◌, ◌%◌, ◌^◌, ◌<◌}
+use Prim.Native.Nat.{ℕ, ◌/◌, ◌%◌, ◌^◌, ◌<◌, ◌*◌}
 use native.Mathlib.Omega.{arith}
 use borrow.Author.Tests.{eqb-true, eqb-false, eq-eqb, ne_eqb}
 use lib.Bits.{bit_or}
@@ -13,7 +13,10 @@ use lib.Seq.{get_or-set_same, get_or-set_other}
 use Rattle.lists.proofs.ListLaws.{zeros_at}
 use Rattle.byteset.specs.Bits.{has_bit}
 use Rattle.byteset.specs.Set.{no_bytes, has_byte, with_byte}
-use Rattle.byteset.proofs.BitLaws.{bit_same, bit_other}
+use Rattle.byteset.proofs.BitLaws.{bit_same, bit_other, one_shifted}
+
+pub mask_is : (x r : ℕ) → r ≡ x % 64 → 1 * 2 ^ r % 18446744073709551616 ≡ 2 ^ (x % 64)
+mask_is x r e = rw e (one_shifted (x % 64) 64 (omega arith))
 
 -- A set whose words are zero has nothing in it.
 pub has_zeros : (n y : ℕ) → has_byte (replicate n 0) y ≡ false

@@ -2,7 +2,7 @@
 -- starts, a turn and its end, by the first of the lines that are left.
 use mathlib.Core.Path.{◌≡◌, refl, ◌∙◌}
 use mathlib.Core.List.{[], ◌∷◌, ◌++◌}
-use Prim.Native.Nat.{ℕ, suc, ◌+◌, ◌-◌, ◌≤◌}
+use Prim.Native.Nat.{ℕ, suc, ◌+◌, ◌-◌, ◌≤◌, ◌<◌}
 use native.Mathlib.Numerals.{add-one}
 use native.Mathlib.Omega.{arith}
 use lib.ListN.{length, length-append}
@@ -11,7 +11,7 @@ use Rattle.lists.specs.Lists.{from}
 use Rattle.sector.specs.Contents.{Bytes}
 use Rattle.volume.specs.Listing.{decimal, state_word, client_text, sectors_text, pages_text, client_line, file_line, lines}
 use Rattle.text.specs.Writes.{Wrote}
-use Rattle.text.proofs.WritesLaws.{wrote_more}
+use Rattle.text.proofs.WritesLaws.{wrote_more, wrote_none}
 
 -- ------------------------------------------------------------------ one line
 pub client_length : (k state count : ℕ)
@@ -73,3 +73,8 @@ module _ {line : ℕ → Bytes} {n : ℕ} {b c : Bytes} {start k at : ℕ} (now 
     room = omega (arith, one.next, next_room h);
     rest = λ w m x. now.rest w m (rw (lines_from line n k h) (wrote_more one x));
   }
+
+  pub writing_ends : n < k → Wrote b start (lines line (from 1 n)) c at
+  writing_ends h =
+      let m : n + 1 - k ≡ 0 = omega arith in
+      now.rest c at (rw m (wrote_none c at))

@@ -138,6 +138,9 @@ module _ {A : Type 0} where
 -- ------------------------------------------------------------------ a loop that searches a list, by index
 -- What is left to search decides what is found.
 module _ {A : Type 0} (xs : List A) (i : ℕ) (x : A) (next : drop i xs ≡ x ∷ drop (i + 1) xs) (t : A → Bool) where
+  pub find_more : (w : Option A) → w ≡ find t (drop i xs) → t x ≡ false → w ≡ find t (drop (i + 1) xs)
+  find_more w q e = q ∙ rw (next, e)
+
   pub find_hit : (w : Option A) → w ≡ find t (drop i xs) → t x ≡ true → w ≡ some x
   find_hit w q e = q ∙ rw (next, e)
 

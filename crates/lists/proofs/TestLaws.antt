@@ -2,12 +2,12 @@
 -- One test that fails makes the list of tests fail; where all before the last hold, the list is the last one. A loop keeps that
 -- the result is decided by what is left to test, `drop i xs` or the numbers from i on: a turn takes its first element off.
 use mathlib.Core.Path.{◌≡◌, refl, sym, ap, ◌∙◌}
-use mathlib.Core.Bool.{Bool, true, false, not, ◌&&◌, ◌||◌, and-true, and-false, true≢false}
+use mathlib.Core.Bool.{Bool, true, false, not, ◌&&◌, ◌||◌, and-true, and-false, true≢false, or-false}
 use mathlib.Core.List.{List, [], ◌∷◌}
-use Prim.Native.Nat.{ℕ, zero, suc, ◌+◌, ◌-◌, ◌<◌, ◌≤◌}
+use Prim.Native.Nat.{ℕ, zero, suc, ◌+◌, ◌-◌, ◌<◌, ◌≤◌, ◌*◌}
 use native.Mathlib.Numerals.{add-one}
 use native.Mathlib.Omega.{arith}
-use borrow.Author.Tests.{eqb-true, eq-eqb, ltb-true, lt-ltb}
+use borrow.Author.Tests.{eqb-true, eq-eqb, ltb-true, lt-ltb, ne_eqb}
 use lib.Bits.{bit_or, or_add_and, and_le_l, and_le_r}
 use lib.Dec.{eqb, ltb}
 use lib.ListN.{length, get_or, drop, drop_of_length-le}
@@ -55,6 +55,14 @@ or_zero a b = iff _ _ to back
         let za : a ≡ 0 = eqb-true a 0 (and_left (eqb a 0) _ e) in
         let zb : b ≡ 0 = eqb-true b 0 (and_right (eqb a 0) _ e) in
         rw (za, zb)
+
+-- A sum is zero only where both numbers are; the second may be multiplied by n.
+pub sum_zero : (a b n : ℕ) → 0 < n → eqb (a + n * b) 0 ≡ (eqb a 0 && eqb b 0)
+sum_zero zero zero n h = let z : 0 + n * 0 ≡ 0 = omega arith in rw z
+sum_zero zero (suc b) n h =
+    let z : n * suc b ≡ n + n * b = omega arith in
+    ne_eqb (0 + n * suc b) 0 (λ q. omega (arith, z, q, h)) ∙ sym (ne_eqb (suc b) 0 (λ q. omega (arith, q)))
+sum_zero (suc a) b n h = ne_eqb (suc a + n * b) 0 (λ q. omega (arith, q)) ∙ sym (rw (ne_eqb (suc a) 0 (λ q. omega (arith, q))) refl)
 
 -- ------------------------------------------------------------------ a list of tests
 -- Test i fails.
@@ -112,6 +120,9 @@ module _ {A : Type 0} (xs : List A) (i : ℕ) (x : A) (next : drop i xs ≡ x �
   pub taken_more : (t : A → Bool) (a b : Bool) → (a || any t (drop i xs)) ≡ w → b ≡ (t x || a) → (b || any t (drop (i + 1) xs)) ≡ w
   taken_more t a b q e = rw e (or_turn (t x) a (any t (drop (i + 1) xs))) ∙ sym (ap (λ (l : List A). a || any t l) next) ∙ q
 
+pub taken_done : {A : Type 0} (xs : List A) (i : ℕ) → drop i xs ≡ [] → (t : A → Bool) (w a : Bool) → (a || any t (drop i xs)) ≡ w → a ≡ w
+taken_done {A} xs i end t w a q = sym (or-false a) ∙ sym (ap (λ (l : List A). a || any t l) end) ∙ q
+
 -- ------------------------------------------------------------------ a loop over the numbers from i on, below n
 module _ (t : ℕ → Bool) (w : Bool) (n i : ℕ) (q : w ≡ every t (from i (n - i))) where
   pub numbers_more : i < n → t i ≡ true → w ≡ every t (from (i + 1) (n - (i + 1)))
@@ -122,6 +133,10 @@ module _ (t : ℕ → Bool) (w : Bool) (n i : ℕ) (q : w ≡ every t (from i (n
 
   pub numbers_done : n ≤ i → w ≡ true
   numbers_done h = let m : n - i ≡ 0 = omega arith in q ∙ rw m
+
+-- Where it begins: n numbers, below m.
+pub numbers_none : (t : ℕ → Bool) (i n m : ℕ) → m ≡ i + n → every t (from i n) ≡ every t (from i (m - i))
+numbers_none t i n m e = let k : m - i ≡ n = omega arith in rw k
 
 -- Two tests of each number, together or one after the other.
 pub every_both : (t a b : ℕ → Bool) (n i : ℕ) → ((k : ℕ) → i ≤ k → k < i + n → t k ≡ (a k && b k))

@@ -1,7 +1,8 @@
 -- The entries of a transcript: how long each is, whatever a step says, and that what is noted of a command is what its step says.
+use native.Mathlib.Numerals.{add-one}
 use mathlib.Core.Path.{◌≡◌, refl, sym, ap, subst, ◌∙◌}
 use mathlib.Core.List.{List, [], ◌∷◌, ◌++◌, append-nil}
-use Prim.Native.Nat.{ℕ, ◌+◌, ◌*◌, ◌-◌, ◌≤◌}
+use Prim.Native.Nat.{ℕ, ◌+◌, ◌*◌, ◌-◌, ◌≤◌, ◌/◌, ◌%◌, ◌<◌}
 use native.Mathlib.Omega.{arith}
 use lib.ListN.{length, take, drop, set, length-append, length-take}
 use lib.Seq.{sets, sets-eq, length-sets, get_or-drop}
@@ -11,7 +12,7 @@ use Rattle.interface.specs.declared.Outcome.{Outcome}
 use Rattle.interface.specs.declared.QueryOutcome.{QueryOutcome}
 use Rattle.interface.specs.Answers.{Answer, done, crashed, refused, QueryAnswer, found, query_refused, refusal_number, answer_of, query_answer_of}
 use Rattle.sector.specs.Contents.{Bytes}
-use Rattle.sector.specs.Sectors.{sector, byte, word, padded, zero_sector}
+use Rattle.sector.specs.Sectors.{sector, byte, word, padded, zero_sector, word_bytes}
 use Rattle.volume.specs.Volumes.{Volume}
 use Rattle.sector.proofs.CodecLaws.{padded_length}
 use Rattle.sector.proofs.SectorLaws.{sector_length}
@@ -192,6 +193,12 @@ entry_is at l i j =
 -- One byte; the two bytes of a number.
 pub wrote_byte : (b : Bytes) (at x : ℕ) → Wrote b at (x ∷ []) (set b at x) (at + 1)
 wrote_byte b at x = record { bytes = refl; next = refl }
+
+pub wrote_word : (b : Bytes) (at n x y : ℕ) → x ≡ n % 256 → y ≡ n / 256 % 256 → n < 65536
+    → Wrote b at (word_bytes n []) (set (set b at x) (at + 1) y) (at + 2)
+wrote_word b at n x y e f h =
+    let y' : y ≡ n / 256 = omega arith in
+    record { bytes = rw (e, y', add-one at); next = refl }
 
 -- What was written has kept the length of the buffer.
 pub wrote_length : {b d c : Bytes} {at n : ℕ} → Wrote b at d c n → length c ≡ length b

@@ -6,8 +6,8 @@ use Prim.Native.Nat.{ℕ, suc, ◌+◌, ◌*◌, ◌/◌, ◌%◌, ◌≤◌, �
 use native.Mathlib.Nat.{zero-add}
 use native.Mathlib.Omega.{arith}
 use borrow.Author.Tests.{le-ltb, lt-ltb}
-use lib.ListN.{length, drop, get_or, set, drop_of_length-le}
-use lib.Seq.{sets, sets-eq}
+use lib.ListN.{length, drop, get_or, set, drop_of_length-le, take, length-take}
+use lib.Seq.{sets, sets-eq, length-sets}
 use Rattle.sector.specs.Contents.{Bytes}
 use Rattle.lists.proofs.TestLaws.{drop_next}
 use Rattle.text.specs.Writes.{ToPrint}
@@ -42,3 +42,9 @@ unfolding in_hex
 in_hex_lem l o p h e =
     let fits : 0 + length (hex_text l) ≤ length o = omega (arith, hex_length l) in
     rw (le-ltb _ _ h, e, sets-eq (hex_text l) o 0 fits, zero-add (length (hex_text l)), ← hex_length l)
+
+pub hex_fits : (l o p : Bytes) → length l ≤ length o / 2 → p ≡ sets o 0 (hex_text l)
+    → (2 * length l ≤ length p) × (2 * length l ≡ length (take (2 * length l) p))
+hex_fits l o p h e =
+    let n : length p ≡ length o = rw (e) (length-sets o 0 (hex_text l)) in
+    (omega arith, omega (arith, length-take (2 * length l) p))

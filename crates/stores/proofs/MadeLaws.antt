@@ -1,9 +1,10 @@
 -- Updates made by a run. What a function makes adds up with what was made before it, by one law, crashed or not; after updates
 -- that were all made a well-formed volume is well formed, and its view is the view with them made.
+use borrow.Author.Tests.{not-true}
 use mathlib.Core.Path.{◌≡◌, refl, sym, ap, ◌∙◌}
 use mathlib.Core.Bool.{true, false, not}
 use mathlib.Core.List.{List, [], ◌∷◌, ◌++◌}
-use Rattle.lists.proofs.ListLaws.{no_both}
+use Rattle.lists.proofs.ListLaws.{no_both, and_left}
 use Rattle.lists.proofs.CaseLaws.{by_test}
 use Rattle.volume.specs.Views.{View, Update}
 use Rattle.volume.specs.Volumes.{Volume, view}
@@ -47,6 +48,9 @@ made_none = record { stores = refl }
 module _ (r : Run) {q : Run} (e : q ≡ counted r) where
   going_is : not q.crashed ≡ goes_on r
   going_is = by_test (goes_on r) (λ g. rw (e, g)) (λ g. rw (e, g))
+
+  pub put_going : not q.crashed ≡ true → r.crashed ≡ false
+  put_going c = not-true _ (and_left (not r.crashed) _ (sym going_is ∙ c))
 
   module _ {v : Volume} {x : Update} where
     pub put_made : {w : Volume} → not q.crashed ≡ true → w ≡ updated (view v).table v x → UpdatesMade v r (x ∷ []) w q

@@ -9,13 +9,16 @@ use native.Mathlib.Numerals.{add-one}
 use native.Mathlib.Omega.{arith}
 use borrow.Author.Tests.{lt-ltb, le-ltb}
 use lib.Dec.{ltb}
-use lib.ListN.{length, set, length-append}
-use lib.Seq.{sets-eq}
+use lib.ListN.{length, set, length-append, drop, get_or}
+use lib.Seq.{sets-eq, sets, drop-cons}
 use Rattle.lists.specs.Lists.{when◌then◌else◌}
 use Rattle.lists.proofs.ListLaws.{sets_append}
 use Rattle.sector.specs.Contents.{Bytes}
 use Rattle.volume.specs.Listing.{digit, decimal}
 use Rattle.text.specs.Writes.{Wrote, at_front}
+
+pub wrote_none : (b : Bytes) (at : ℕ) → Wrote b at [] b at
+wrote_none b at = record { bytes = refl; next = omega arith }
 
 -- Then e is written behind d.
 pub wrote_more : {b c f d e : Bytes} {at n m : ℕ} → Wrote b at d c n → Wrote c n e f m → Wrote b at (d ++ e) f m
@@ -29,6 +32,13 @@ pub wrote_front : {b c t : Bytes} {n : ℕ} → Wrote b 0 t c n → length t ≤
 wrote_front {b} {c} {t} w h =
     let fits : 0 + length t ≤ length b = omega arith in
     (w.bytes ∙ sets-eq t b 0 fits ∙ rw (zero-add (length t)), w.next ∙ zero-add (length t))
+
+-- One byte of a text, which is the first of those from i on.
+pub put_turn : (t b : Bytes) (at i : ℕ) → i < length t
+    → sets (set b (at + i) (get_or t i 0)) (at + (i + 1)) (drop (i + 1) t) ≡ sets b (at + i) (drop i t)
+put_turn t b at i h =
+    let e : at + (i + 1) ≡ suc (at + i) = omega arith in
+    rw (e, add-one i, drop-cons t i 0 h)
 
 -- ------------------------------------------------------------------ a number
 module _ (n : ℕ) where
