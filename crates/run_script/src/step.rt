@@ -1,5 +1,5 @@
 // What a line does to the volume, which is the front of the buffer, and to the session.
-ghost use Rattle.std.specs.Prelude.{◌≤◌, length};
+ghost use Rattle.std.specs.Prelude.{◌≡◌, ◌≤◌, length, take};
 
 use crate::print::{put_count, put_format, put_hex, put_list, put_outcome, put_query, put_session};
 use commands::{Action, Told};
@@ -115,7 +115,7 @@ fn run_line(
 
 // n, or the length of the buffer if that is less.
 fn at_most(n: usize, buffer: &[u8]) -> usize
-    ensures { result ≤ length buffer.now }
+    ensures { (result ≤ length buffer.now) × (result ≡ length (take result buffer.now)) }
 {
     if n < buffer.len() {
         return n;
