@@ -5,8 +5,9 @@ usage: tools/respell.py [--list] [FOLDER]     (FOLDER: the top of a repository; 
 
     decidedContent, chosen-first   ->   decided_content, chosen_first
 
-A name is one of ours if a file of specs/ or of proofs/ has it, and no line imports it from a library. Names that Rattle makes (a goal,
-a step of a function) stand in a function's proof files alone, and stay, as do Rust's, strings, inputs and outputs. Types and modules
+A name is one of ours if a file of specs/ or of proofs/ has it, and doesn't import it from a library. Names that Rattle makes (a goal,
+a step of a function) stand in a function's proof files alone, and stay, as do Rust's, strings, inputs and outputs. A walk by hand
+(Proof.antt) is full of them, so it adds none. Types and modules
 are in camel case already. Where a lemma would have a definition's name it gets `_lem`.
 
 Our choice `if b then x else y` is `when b then x else y`, since the kit has an `if` of its own: in .antt files, and in edits of them.
@@ -62,23 +63,32 @@ def read(path):
         return f.read()
 
 
+def code_of(path):
+    return QUIET.sub(" ", read(path)) if path.endswith(".antt") else re.sub("//.*", "", read(path))
+
+
+def of_libraries(code, crates):
+    """The names that a file's imports bring in from a library."""
+    theirs = set()
+    for source, items in USE.findall(code):
+        steps = source.split(".")
+        if steps[0] != "Rattle" or not os.path.isdir(os.path.join(crates, *steps[1:2])):
+            theirs.update(NAME.findall(items))
+    return theirs
+
+
 def names_of(root):
-    """Our names that are not in snake case."""
+    """Our names that are not in snake case, and those that libraries have."""
     crates = os.path.join(root, "crates")
     ours, theirs = set(), set()
     for path in files(crates, ".antt", ".rt"):
-        text = QUIET.sub(" ", read(path)) if path.endswith(".antt") else re.sub("//.*", "", read(path))
-        for source, items in USE.findall(text):
-            steps = source.split(".")
-            if steps[0] != "Rattle" or not os.path.isdir(os.path.join(crates, *steps[1:2])):
-                theirs.update(NAME.findall(items))
-        if path.endswith(".rt"):
-            continue
-        found = set(filter(is_odd, NAME.findall(text)))
-        if OF_A_FUNCTION.search(path):
-            found &= set(OWN.findall(text))
-        ours |= found
-    return {name: respelled(name) for name in ours - theirs}
+        code = code_of(path)
+        lent = of_libraries(code, crates)
+        theirs |= lent
+        if path.endswith(".antt") and not path.endswith("/Proof.antt"):
+            found = set(filter(is_odd, NAME.findall(code)))
+            ours |= (found & set(OWN.findall(code)) if OF_A_FUNCTION.search(path) else found) - lent
+    return {name: respelled(name) for name in ours}, theirs
 
 
 class Speller:
@@ -155,14 +165,16 @@ def main(args):
     listing = "--list" in args
     args = [a for a in args if a != "--list"]
     root = os.path.abspath(args[0] if args else os.path.join(os.path.dirname(__file__), ".."))
-    names = names_of(root)
+    names, theirs = names_of(root)
     if listing:
         print("\n".join(f"{old}\t{new}" for old, new in sorted(names.items())))
         return
-    speller = Speller(names)
+    crates = os.path.join(root, "crates")
     for path in files(root, ".antt", ".rt", ".edit", ".md"):
         if os.path.relpath(path, root) == "docs/PORT.md":
             continue
+        lent = of_libraries(code_of(path), crates) if path.endswith((".antt", ".rt")) else theirs
+        speller = Speller({old: new for old, new in names.items() if old not in lent})
         old = read(path)
         new = fields(path, speller.file(path, old))
         if new != old:

@@ -21,8 +21,8 @@ pub or_true : (a b : Bool) → b ≡ true → (a || b) ≡ true
 or_true true b e = refl
 or_true false b e = e
 
-pub or-false : (a b : Bool) → a ≡ false → b ≡ false → (a || b) ≡ false
-or-false a b p q = rw (p, q)
+pub or_false : (a b : Bool) → a ≡ false → b ≡ false → (a || b) ≡ false
+or_false a b p q = rw (p, q)
 
 -- None is something: from that anything follows.
 pub none_some : {A X : Type 0} (x : A) → none ≡ some x → X
@@ -110,8 +110,8 @@ module _ {A : Type 0} where
   every_end t xs x e h = every_append t xs (x ∷ []) e (and_both (t x) true h refl)
 
   any_end : (t : A → Bool) (xs : List A) (x : A) → any t xs ≡ false → t x ≡ false → any t (xs ++ (x ∷ [])) ≡ false
-  any_end t [] x e h = or-false (t x) false h refl
-  any_end t (y ∷ ys) x e h = let d = or_none (t y) (any t ys) e in or-false (t y) _ d.0 (any_end t ys x d.1 h)
+  any_end t [] x e h = or_false (t x) false h refl
+  any_end t (y ∷ ys) x e h = let d = or_none (t y) (any t ys) e in or_false (t y) _ d.0 (any_end t ys x d.1 h)
 
   pub distinct_end : (r : A → A → Bool) (xs : List A) (x : A) → distinct r xs ≡ true → every (λ y. not (r y x)) xs ≡ true
       → distinct r (xs ++ (x ∷ [])) ≡ true
@@ -220,10 +220,10 @@ every_set t (y ∷ m) (suc i) x e h = and_both (t y) _ (and_left (t y) _ e) (eve
 
 pub member_set : (m : List ℕ) (i x y : ℕ) → member x m ≡ false → eqb x y ≡ false → member x (set m i y) ≡ false
 member_set [] i x y h n = refl
-member_set (z ∷ m) zero x y h n = or-false (eqb x y) _ n (or_none (eqb x z) (member x m) h).1
+member_set (z ∷ m) zero x y h n = or_false (eqb x y) _ n (or_none (eqb x z) (member x m) h).1
 member_set (z ∷ m) (suc i) x y h n =
     let d = or_none (eqb x z) (member x m) h in
-    or-false (eqb x z) _ d.0 (member_set m i x y d.1 n)
+    or_false (eqb x z) _ d.0 (member_set m i x y d.1 n)
 
 pub distinct_set : (m : List ℕ) (i y : ℕ) → distinct eqb m ≡ true → member y m ≡ false → distinct eqb (set m i y) ≡ true
 distinct_set [] i y e h = refl
