@@ -7,8 +7,8 @@ usage: tools/respell.py [--list] [FOLDER]     (FOLDER: the top of a repository; 
 
 A name is one of ours if a file of specs/ or of proofs/ has it, and doesn't import it from a library. Names that Rattle makes (a goal,
 a step of a function) stand in a function's proof files alone, and stay, as do Rust's, strings, inputs and outputs. A walk by hand
-(Proof.antt) is full of them, so it adds none. Types and modules
-are in camel case already. Where a lemma would have a definition's name it gets `_lem`.
+(Proof.antt) is full of them, so it adds none. Types and modules are in camel case already. Where a lemma would have a definition's
+name it gets `_lem`.
 
 Our choice `if b then x else y` is `when b then x else y`, since the kit has an `if` of its own: in .antt files, and in edits of them.
 
