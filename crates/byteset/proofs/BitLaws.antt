@@ -1,17 +1,20 @@
 -- The bits of a word: of an or, of a word with one bit, and of a word's half. A bit that was set is set, one that was cleared is
 -- clear, and every other one is as before.
--- Bit k of a word w is w / 2 ^ k % 2. An or of two words is an or of their bits, and 2 ^ i has bit i alone: division by 2 ^ k
--- leaves 1 where k is i, 0 where it is more, and an even number where it is less. Clearing a bit goes by halves.
+-- Bit k of a word w is the library's `bit_at`, which isn't 0. An or of two words is an or of their bits, and 2 ^ i has bit i alone.
+-- Clearing a bit goes by halves.
 use mathlib.Core.Path.{◌≡◌, refl, sym, ap, ◌∙◌}
-use mathlib.Core.Bool.{Bool, true, false, not, ◌||◌, or-false, true≢false}
+use mathlib.Core.Bool.{true, false, not, ◌||◌, or-false, true≢false}
 use mathlib.Core.Logic.{◌≢◌}
 use Prim.Native.Nat.{ℕ, zero, suc, ◌+◌, ◌*◌, ◌-◌, ◌/◌, ◌%◌, ◌^◌, ◌<◌, ◌≤◌}
-use native.Mathlib.Nat.{min-zero, pow-suc}
+use native.Mathlib.Nat.{pow-suc}
 use native.Mathlib.Omega.{arith}
 use borrow.Author.Tests.{ne_eqb, ltb-true, ltb-false}
-use lib.Bits.{bit_and, bit_or, and_mask, and_step, and_high, or_shr, or_mod}
+use lib.Bits.{bit_or, or_shr, or_mod}
 use lib.Dec.{eqb, ltb}
-use lib.Pow.{pow-add, pow_pos, pow-lt, shl-shr, shr-shr, shr_le, high, shl_exact}
+use lib.Pow.{pow_pos}
+use Rattle.std.specs.Int.{bit_at}
+use Rattle.std.proofs.lemmas.Nat.Bits.{and_pow, bit_at_lowest, bit_at-suc, bit_at-pow_same, bit_at-pow_other, bit_at_above}
+use Rattle.std.proofs.lemmas.Nat.{shr_split, mod_below}
 use Rattle.lists.proofs.CaseLaws.{by_test, by_equal}
 use Rattle.lists.proofs.SearchLaws.{or_true}
 use Rattle.lists.proofs.TestLaws.{not_and, or_zero}
@@ -24,40 +27,8 @@ product_zero (suc b) p h =
     let z : suc b * p ≡ p + b * p = omega arith in
     ne_eqb _ _ (λ (q : suc b * p ≡ 0). omega (arith, z, q, h)) ∙ sym (ne_eqb (suc b) 0 (λ (q : suc b ≡ 0). omega (arith, q)))
 
-bit_is : (w k : ℕ) → has_bit w k ≡ not (eqb (w / 2 ^ k % 2) 0)
-bit_is w k =
-    let p : 2 ^ (1 + k) ≡ 2 * 2 ^ k = pow-add 2 1 k in
-    let m : 2 ^ k ≡ 2 ^ (1 + k) - 2 ^ k = omega (arith, p) in
-    let q : bit_and w (2 ^ k) ≡ (w / 2 ^ k % 2) * 2 ^ k = ap (bit_and w) m ∙ and_high w 1 k in
-    ap not (ap (λ (x : ℕ). eqb x 0) q ∙ product_zero (w / 2 ^ k % 2) (2 ^ k) (pow_pos k))
-
-own_bit : (k : ℕ) → 2 ^ k / 2 ^ k % 2 ≡ 1
-own_bit k =
-    let z : 2 ^ k ≡ 1 * 2 ^ k = omega arith in
-    let q : 2 ^ k / 2 ^ k ≡ 1 = ap (λ (x : ℕ). x / 2 ^ k) z ∙ shl-shr 1 k in
-    rw q
-
-low_bit : (i k : ℕ) → i < k → 2 ^ i / 2 ^ k % 2 ≡ 0
-low_bit i k h =
-    let z : 2 ^ i ≡ 0 * 2 ^ k + 2 ^ i = omega arith in
-    let q : 2 ^ i / 2 ^ k ≡ 0 = ap (λ (x : ℕ). x / 2 ^ k) z ∙ high 0 k (pow-lt h) in
-    rw q
-
-high_bit : (j k : ℕ) → 2 ^ (suc j + k) / 2 ^ k % 2 ≡ 0
-high_bit j k =
-    let p : 2 ^ (suc j + k) ≡ 2 ^ suc j * 2 ^ k = pow-add 2 (suc j) k in
-    let q : 2 ^ suc j * 2 ^ k / 2 ^ k ≡ 2 ^ j * 2 = shl-shr (2 ^ suc j) k ∙ pow-suc 2 j in
-    rw (p, q) (omega arith)
-
-other_bit : (i k : ℕ) → i ≢ k → 2 ^ i / 2 ^ k % 2 ≡ 0
-other_bit i k n = go (ltb i k) refl
-  where
-    go : (b : Bool) → ltb i k ≡ b → 2 ^ i / 2 ^ k % 2 ≡ 0
-    go true e = low_bit i k (ltb-true _ _ e)
-    go false e =
-        let le : k ≤ i = ltb-false _ _ e in
-        let m : i ≡ suc (i - k - 1) + k = omega arith in
-        ap (λ (x : ℕ). 2 ^ x / 2 ^ k % 2) m ∙ high_bit (i - k - 1) k
+pub bit_is : (w k : ℕ) → has_bit w k ≡ not (eqb (bit_at w k) 0)
+bit_is w k = ap (λ (x : ℕ). not (eqb x 0)) (and_pow w k) ∙ ap not (product_zero (bit_at w k) (2 ^ k) (pow_pos k))
 
 pub bit_or_lem : (w v k : ℕ) → has_bit (bit_or w v) k ≡ (has_bit w k || has_bit v k)
 bit_or_lem w v k =
@@ -65,54 +36,34 @@ bit_or_lem w v k =
     rw (bit_is (bit_or w v) k, q, or_zero (w / 2 ^ k % 2) (v / 2 ^ k % 2), bit_is w k, bit_is v k) (not_and (eqb (w / 2 ^ k % 2) 0) (eqb (v / 2 ^ k % 2) 0))
 
 pub bit_same : (w k : ℕ) → has_bit (bit_or w (2 ^ k)) k ≡ true
-bit_same w k = bit_or_lem w (2 ^ k) k ∙ or_true (has_bit w k) _ (bit_is (2 ^ k) k ∙ rw (own_bit k))
+bit_same w k = bit_or_lem w (2 ^ k) k ∙ or_true (has_bit w k) _ (bit_is (2 ^ k) k ∙ rw (bit_at-pow_same k))
 
 pub bit_other : (w i k : ℕ) → i ≢ k → has_bit (bit_or w (2 ^ i)) k ≡ has_bit w k
-bit_other w i k n = bit_or_lem w (2 ^ i) k ∙ rw (bit_is (2 ^ i) k, other_bit i k n) (or-false (has_bit w k))
+bit_other w i k n = bit_or_lem w (2 ^ i) k ∙ rw (bit_is (2 ^ i) k, bit_at-pow_other i k (λ e. n (sym e))) (or-false (has_bit w k))
 
 -- A word that is 0 without its i lowest bits has no bit from i on.
 pub none_above : (w i j : ℕ) → w / 2 ^ i ≡ 0 → i ≤ j → has_bit w j ≡ false
 none_above w i j z h =
-    let m : j ≡ i + (j - i) = omega arith in
-    let le : 0 / 2 ^ (j - i) ≤ 0 = shr_le 0 (j - i) in
-    let q : w / 2 ^ j ≡ 0 = ap (λ (x : ℕ). w / 2 ^ x) m ∙ sym (shr-shr w i (j - i)) ∙ rw z (omega (arith, le)) in
-    bit_is w j ∙ rw q
+    let low : 0 * 2 ^ i + w % 2 ^ i ≡ w = ap (λ (x : ℕ). x * 2 ^ i + w % 2 ^ i) (sym z) ∙ shr_split w i in
+    let small : w < 2 ^ i = omega (arith, low, mod_below w (2 ^ i) (pow_pos i)) in
+    bit_is w j ∙ rw (bit_at_above w i j small h)
 
--- In a word of w bits 1 is shifted to bit i, and none is lost.
-pub one_shifted : (i w : ℕ) → i < w → 1 * 2 ^ i % 2 ^ w ≡ 2 ^ i
-one_shifted i w h =
-    let z : 1 * 2 ^ i ≡ 2 ^ i = omega arith in
-    shl_exact {a = 1} 1 i w (omega arith) (omega arith) ∙ z
+-- A word with bit i is at least 2 ^ i.
+pub has_le : (w i : ℕ) → has_bit w i ≡ true → 2 ^ i ≤ w
+has_le w i e = by_test (ltb w (2 ^ i))
+    (λ l. absurd (true≢false (sym e ∙ bit_is w i ∙ rw (bit_at_above w i i (ltb-true _ _ l) (omega arith))))) (λ l. ltb-false _ _ l)
 
 -- ------------------------------------------------------------------ by halves
 -- The lowest bit, and those above it in the word's half.
 pub bit_low : (w : ℕ) → has_bit w 0 ≡ not (eqb (w % 2) 0)
-bit_low w = ap (λ (x : ℕ). not (eqb x 0)) (and_mask w 1)
+bit_low w = bit_is w 0 ∙ rw (bit_at_lowest w)
 
 pub bit_half : (w j : ℕ) → has_bit w (suc j) ≡ has_bit (w / 2) j
-bit_half w j =
-    let p : 2 ^ suc j ≡ 2 ^ j * 2 = pow-suc 2 j in
-    let half : 2 ^ suc j / 2 ≡ 2 ^ j = omega (arith, p) in
-    let even : 2 ^ suc j % 2 ≡ 0 = omega (arith, p) in
-    let q : bit_and w (2 ^ suc j) ≡ bit_and (w / 2) (2 ^ j) * 2 + 0 = and_step w (2 ^ suc j) ∙ rw (half, even, min-zero (w % 2)) in
-    ap (λ (x : ℕ). not (eqb x 0)) q ∙ twice (bit_and (w / 2) (2 ^ j))
-  where
-    twice : (n : ℕ) → not (eqb (n * 2 + 0) 0) ≡ not (eqb n 0)
-    twice zero = refl
-    twice (suc n) =
-        ap not (ne_eqb (suc n * 2 + 0) 0 (λ (q : suc n * 2 + 0 ≡ 0). omega arith) ∙ sym (ne_eqb (suc n) 0 (λ (q : suc n ≡ 0). omega arith)))
+bit_half w j = bit_is w (suc j) ∙ rw (bit_at-suc w j) (sym (bit_is (w / 2) j))
 
 -- The lowest bit is set where the word is odd.
 odd_is : (w : ℕ) → has_bit w 0 ≡ true → w % 2 ≡ 1
 odd_is w e = by_equal (w % 2) 0 (λ z. absurd (true≢false (sym e ∙ bit_low w ∙ rw z))) (λ n. omega (arith, n))
-
--- A word with bit i is at least 2 ^ i.
-pub has_le : (w i : ℕ) → has_bit w i ≡ true → 2 ^ i ≤ w
-has_le w zero e = let o : w % 2 ≡ 1 = odd_is w e in omega (arith, o)
-has_le w (suc i) e =
-    let p : 2 ^ suc i ≡ 2 ^ i * 2 = pow-suc 2 i in
-    let h : 2 ^ i ≤ w / 2 = has_le (w / 2) i (sym (bit_half w i) ∙ e) in
-    omega (arith, p, h)
 
 -- A bit that is set is taken out.
 taken_same : (w i : ℕ) → has_bit w i ≡ true → has_bit (w - 2 ^ i) i ≡ false

@@ -1,22 +1,19 @@
--- A set of bytes in four words: a byte that was put in is there, and every other one is as before.
+-- A set of numbers in words: a number that was put in is there, and every other one is as before.
 use mathlib.Core.Path.{◌≡◌, refl, sym, ap}
 use mathlib.Core.Bool.{Bool, true, false, ◌||◌}
 use mathlib.Core.List.{List}
 use mathlib.Core.Logic.{◌≢◌}
-use Prim.Native.Nat.{ℕ, ◌/◌, ◌%◌, ◌^◌, ◌<◌, ◌*◌}
+use Prim.Native.Nat.{ℕ, ◌/◌, ◌%◌, ◌^◌, ◌<◌}
 use native.Mathlib.Omega.{arith}
 use borrow.Author.Tests.{eqb-true, eqb-false, eq-eqb, ne_eqb}
 use lib.Bits.{bit_or}
 use lib.Dec.{eqb}
-use lib.ListN.{length, get_or, set, replicate}
+use lib.ListN.{length, length-set, get_or, set, replicate}
 use lib.Seq.{get_or-set_same, get_or-set_other}
 use Rattle.lists.proofs.ListLaws.{zeros_at}
 use Rattle.byteset.specs.Bits.{has_bit}
 use Rattle.byteset.specs.Set.{no_bytes, has_byte, with_byte}
-use Rattle.byteset.proofs.BitLaws.{bit_same, bit_other, one_shifted}
-
-pub mask_is : (x r : ℕ) → r ≡ x % 64 → 1 * 2 ^ r % 18446744073709551616 ≡ 2 ^ (x % 64)
-mask_is x r e = rw e (one_shifted (x % 64) 64 (omega arith))
+use Rattle.byteset.proofs.BitLaws.{bit_same, bit_other}
 
 -- A set whose words are zero has nothing in it.
 pub has_zeros : (n y : ℕ) → has_byte (replicate n 0) y ≡ false
@@ -25,6 +22,10 @@ has_zeros n y = rw (zeros_at n (y / 64))
 
 pub has_none : (y : ℕ) → has_byte no_bytes y ≡ false
 has_none y = has_zeros 4 y
+
+pub length_with : (s : List ℕ) (x : ℕ) → length (with_byte s x) ≡ length s
+unfolding with_byte
+length_with s x = length-set s (x / 64) _
 
 pub has_with : (s : List ℕ) (x y : ℕ) → x / 64 < length s → has_byte (with_byte s x) y ≡ (eqb y x || has_byte s y)
 unfolding has_byte with_byte

@@ -1,4 +1,4 @@
--- A set of bytes in four words of 64 bits: byte x is bit x % 64 of word x / 64.
+-- A set of numbers in words of 64 bits: number x is bit x % 64 of word x / 64. Four words hold any byte.
 use Rattle.std.specs.Prelude.{◌≡◌, Bool, true, false, ◌||◌, List, [], ◌∷◌, ℕ, ◌/◌, ◌%◌, ◌^◌, ◌≤◌, ◌<◌, ltb, get_or, set}
 use Rattle.std.specs.Int.Bits.{bit_or}
 use Rattle.lists.specs.Lists.{member}

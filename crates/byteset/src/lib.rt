@@ -1,96 +1,83 @@
-// A set of bytes in four words of 64 bits: byte x is bit x % 64 of word x / 64. A set of numbers below
-// 1,024 is the same in sixteen words.
+// A set of numbers in words of 64 bits. Four words hold any byte, sixteen any number below 1,024.
 #![tactic(auto)]
 
-ghost use Rattle.std.specs.Prelude.{◌≡◌, not, ◌/◌, ◌%◌, ◌^◌, ◌<◌, length};
+ghost use Rattle.std.specs.Prelude.{length, ◌≡◌, not, ◌*◌, ◌/◌, ◌%◌, ◌^◌, ◌<◌, replicate, unwrap_or, IfSome};
 ghost use Rattle.byteset.specs.Bits.{has_bit};
 ghost use Rattle.byteset.specs.Set.{has_byte, with_byte, passes_over, LowestFailing};
-
-use sector::wide;
 
 // The word that has only the bit of number x.
 fn mask(x: usize) -> u64
     ensures { result ≡ 2 ^ (x % 64) }
 {
-    let k = (x % 64) as u64;
-    1u64 << k
-}
-
-// Whether byte x is in the set.
-pub fn has(seen: &[u64; 4], x: u8) -> bool
-    requires { length seen.now ≡ 4 }
-    ensures { result ≡ has_byte seen.now x }
-{
-    let n = wide(x);
-    let i = n / 64;
-    seen[i] & mask(n) != 0
-}
-
-// Puts byte x into the set.
-pub fn add(seen: &mut [u64; 4], x: u8)
-    requires { length seen.old ≡ 4 }
-    ensures { (seen.new ≡ with_byte seen.old x) × (length seen.new ≡ 4) }
-{
-    let n = wide(x);
-    let i = n / 64;
-    let m = mask(n);
-    seen[i] = seen[i] | m;
-}
-
-// Puts byte x into the set. The answer is whether it was absent. Ruled out: an answer whether it is there afterwards;
-// another byte put in with it.
-pub fn insert(seen: &mut [u64; 4], x: u8) -> bool
-    requires { length seen.old ≡ 4 }
-    ensures { (result ≡ not (has_byte seen.old x)) × (seen.new ≡ with_byte seen.old x) × (length seen.new ≡ 4) }
-{
-    let n = wide(x);
-    let i = n / 64;
-    let m = mask(n);
-    let word = seen[i];
-    seen[i] = word | m;
-    word & m == 0
-}
-
-// Puts number x into the set. The answer is whether it was absent. Ruled out: numbers 32 apart that share a bit
-// (`must-fail/numbers_share_a_bit`).
-pub fn insert_number(seen: &mut [u64; 16], x: usize) -> bool
-    requires { (length seen.old ≡ 16) × (x < 1024) }
-    ensures { (result ≡ not (has_byte seen.old x)) × (seen.new ≡ with_byte seen.old x) × (length seen.new ≡ 16) }
-{
-    let i = x / 64;
-    let m = mask(x);
-    let word = seen[i];
-    seen[i] = word | m;
-    word & m == 0
+    1u64 << (x % 64)
 }
 
 // How many bits of the word are set below its lowest clear bit: 64 where none is clear.
-fn low_ones(w: u64) -> u8
+fn low_ones(w: u64) -> usize
     ensures { LowestFailing (has_bit w) 64 result }
 {
-    u64::trailing_zeros(!w) as u8
+    // No `From` leads from `u32` to `usize`.
+    w.trailing_ones() as usize
 }
 
-// The lowest byte from `start` on and below n that is not in the set, or n where there is none: the lowest clear bit of the
-// first word that has one, with the bits before `start` taken as set. Ruled out: a byte before `start`; a search that begins
-// in a later word (`must-fail/start_in_a_later_word`).
-pub fn lowest_missing(seen: &[u64; 4], start: usize, n: u8) -> u8
-    requires { length seen.now ≡ 4 }
-    ensures { LowestFailing (passes_over start seen.now) n result }
-{
-    let mut before = mask(start) - 1;
-    let mut i = start / 64;
-    while i < 4 {
-        let ones = low_ones(seen[i] | before);
-        if ones < 64 {
-            let r = 64 * i + wide(ones);
-            if r < wide(n) {
-                return r as u8;
-            }
-            return n;
-        }
-        before = 0;
-        i += 1;
+// A set of numbers below 64 * N: number x is bit x % 64 of word x / 64.
+#[derive(Clone, Copy, Debug, PartialEq, Eq)]
+pub struct BitSet<const N: usize> {
+    pub words: [u64; N],
+    ghost long: { length words ≡ N },
+}
+
+impl<const N: usize> BitSet<N> {
+    // The empty set.
+    pub fn new() -> Self
+        ensures { result.words ≡ replicate N 0 }
+    {
+        BitSet { words: [0; N] }
     }
-    n
+
+    // Whether number x is in the set.
+    pub fn has(&self, x: usize) -> bool
+        requires { x < 64 * N }
+        ensures { result ≡ has_byte self.now.words x }
+    {
+        self.words[x / 64] & mask(x) != 0
+    }
+
+    // Puts number x into the set. The answer is whether it was absent. Ruled out: an answer whether it is there afterwards;
+    // another number put in with it; numbers 32 apart that share a bit (`must-fail/numbers_share_a_bit`).
+    pub fn insert(&mut self, x: usize) -> bool
+        requires { x < 64 * N }
+        ensures { (result ≡ not (has_byte self.old.words x)) × (self.new.words ≡ with_byte self.old.words x) }
+    {
+        let m = mask(x);
+        let word = self.words[x / 64];
+        self.words[x / 64] = word | m;
+        word & m == 0
+    }
+}
+
+impl BitSet<4> {
+    // The lowest byte from `start` on and below n that is not in the set: the lowest clear bit of the first word that has one, with
+    // the bits before `start` taken as set. Ruled out: a byte before `start`; a search that begins in a later word
+    // (`must-fail/start_in_a_later_word`).
+    pub fn lowest_missing(&self, start: usize, n: u8) -> Option<u8>
+        ensures lowest { LowestFailing (passes_over start self.now.words) n (unwrap_or result n) }
+        ensures below { IfSome result (λ r. r < n) }
+    {
+        let mut before = mask(start) - 1;
+        for i in start / 64..4 {
+            let ones = low_ones(self.words[i] | before);
+            if ones < 64 {
+                let r = 64 * i + ones;
+                // A number below n is a byte, so `try_from` would test in vain.
+                return if r < usize::from(n) {
+                    Some(r as u8)
+                } else {
+                    None
+                };
+            }
+            before = 0;
+        }
+        None
+    }
 }

@@ -1,7 +1,6 @@
 -- How a call ends, put together: a refusal is the call's, and the stores of its plan under the budget are what it leaves and
 -- answers. The definition of a call is taken apart at its two choices, the refusal and the budget.
-use mathlib.Core.Path.{◌≡◌, refl, sym, ap, ◌∙◌}
-use mathlib.Core.Bool.{Bool, true, false}
+use mathlib.Core.Path.{◌≡◌, refl, ap, ◌∙◌}
 use mathlib.Core.List.{List}
 use Prim.Native.Nat.{ℕ, zero, suc, ◌≤◌, ◌<◌}
 use native.Mathlib.Nat.{not-suc-le-zero}
@@ -21,7 +20,11 @@ use Rattle.rules.specs.Plans.{Call, Query, plan, session_after}
 use Rattle.rules.specs.Refusals.{tests, query_tests}
 use Rattle.rules.specs.Calls.{call_by, call, query_by, query}
 use Rattle.rules.specs.Spare.{spare_tests, spare_by, spare}
+use Rattle.std.specs.Prelude.{Result, Ok, Err}
+use Rattle.lists.specs.Lists.{when◌then◌else◌}
+use Rattle.lists.proofs.CaseLaws.{by_test}
 use Rattle.stores.specs.declared.Run.{Run}
+use Rattle.stores.specs.declared.Crashed.{Crashed}
 use Rattle.stores.specs.Runs.{new_run, UpdatesMade}
 use Rattle.stores.proofs.RunLaws.{run_new}
 use Rattle.checks.proofs.VerdictLaws.{numbered}
@@ -49,23 +52,26 @@ module _ (v : Volume) (s : Session) (c : Call) (budget : ℕ) (e : 0 ≡ first (
   abbrev xs : List Store
   xs = all_stores (view v).table (plan (view v) s c)
 
-  ended_by_lem : (w : Volume) (made : ℕ) (is_crashed : Bool) → w ≡ cut_at v xs budget → made ≡ length (take budget xs)
-      → is_crashed ≡ ltb budget (length xs) → ended_by made is_crashed (session_after (view v) s c) w ≡ call v s c budget
-  unfolding call
-  ended_by_lem w made true left count over =
-      let more : budget < length xs = ltb-true budget (length xs) (sym over) in
-      let all : made ≡ budget = count ∙ length-take-le budget xs (omega arith) in
-      rw (← e, lt-leb (length xs) budget more, all, left)
-  ended_by_lem w made false left count over =
-      let room : length xs ≤ budget = ltb-false budget (length xs) (sym over) in
-      let all : take budget xs ≡ xs = take_all budget xs room in
-      rw (← e, le-leb (length xs) budget room, count ∙ ap length all, left)
+  -- What a new run comes to.
+  abbrev run : Result Run Crashed
+  run =
+      when ltb budget (length xs) then Err (record { made = length (take budget xs) })
+      else Ok (record { budget = budget; made = length (take budget xs) })
 
-  pub ended_call : (w : Volume) (q : Run) → UpdatesMade v (new_run budget) (plan (view v) s c) w q
-      → ended_by q.made q.crashed (session_after (view v) s c) w ≡ call v s c budget
+  ended_run : ended_by run (session_after (view v) s c) (cut_at v xs budget) ≡ call v s c budget
+  unfolding call
+  ended_run = by_test (ltb budget (length xs))
+      (λ g.
+      let more : budget < length xs = ltb-true budget (length xs) g in
+      rw (← e, g, lt-leb (length xs) budget more, length-take-le budget xs (omega arith)))
+      (λ g.
+      let room : length xs ≤ budget = ltb-false budget (length xs) g in
+      rw (← e, g, le-leb (length xs) budget room, take_all budget xs room))
+
+  pub ended_call : (w : Volume) (q : Result Run Crashed) → UpdatesMade v (Ok (new_run budget)) (plan (view v) s c) w q
+      → ended_by q (session_after (view v) s c) w ≡ call v s c budget
   ended_call w q m =
-      let x = m.stores ∙ run_new budget xs v in
-      ended_by_lem w q.made q.crashed (ap (λ (p : Volume × Run). p.0) x) (ap (λ (p : Volume × Run). p.1.made) x) (ap (λ (p : Volume × Run). p.1.crashed) x)
+      ap (λ (p : Volume × Result Run Crashed). ended_by p.1 (session_after (view v) s c) p.0) (m.stores ∙ run_new budget xs v) ∙ ended_run
 
 -- A refused question.
 pub refused_query : (v : Volume) (s : Session) (q : Query) (r : Refusal)

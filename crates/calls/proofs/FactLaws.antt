@@ -64,12 +64,12 @@ acts v s k e =
 pub record Opens (v : Volume) (s : Session) (k f : ℕ) : Type 0 where
   pub sound : sound v ≡ true
   pub formed : WellFormed v
-  pub client : (1 ≤ k) × (k ≤ 4)
+  pub low : 1 ≤ k
+  pub high : k ≤ 4
   pub file : IsFile (view v).table f
   pub few : f ≤ 16
   pub header : header_fits (view v).records (view v).table f ((view v).headers f) ≡ true
   pub free : held_by_other (view v) s k f ≡ false
-  pub unread : is_reading s k f ≡ true → ((view v).headers f).holder ≡ 0
 
 may_open : (v : Volume) (s : Session) (k f : ℕ) → Fine v → MayOpenRead (view v) s k f → Opens v s k f
 may_open v s k f fine w =
@@ -77,13 +77,12 @@ may_open v s k f fine w =
     record {
       sound = fine_sound v fine;
       formed = fine.formed;
-      client = (w.act.active.low, w.act.active.high);
+      low = w.act.active.low;
+      high = w.act.active.high;
       file = w.file;
       few = few;
       header = open_header w;
       free = w.free;
-      unread = λ on. (w.act.ready.reads k f
-          (record { low = w.act.active.low; high = w.act.active.high; first = w.file.low; last = few; on = on })).free;
     }
 
 pub opens : (v : Volume) (s : Session) (k f : ℕ) → 0 ≡ first (tests (sound v) (view v) s (open_file k f)) → Opens v s k f
@@ -91,6 +90,14 @@ opens v s k f e = let p = passed v s (open_file k f) (sym e) in may_open v s k f
 
 pub opens_read : (v : Volume) (s : Session) (k f : ℕ) → 0 ≡ first (tests (sound v) (view v) s (open_read k f)) → Opens v s k f
 opens_read v s k f e = let p = passed v s (open_read k f) (sym e) in may_open v s k f p.fine p.allowed
+
+-- A file that the client reads already has no holder.
+pub unread : (v : Volume) (s : Session) (k f : ℕ) → 0 ≡ first (tests (sound v) (view v) s (open_read k f))
+    → is_reading s k f ≡ true → ((view v).headers f).holder ≡ 0
+unread v s k f e on =
+    let w = (passed v s (open_read k f) (sym e)).allowed in
+    let o = opens_read v s k f e in
+    (w.act.ready.reads k f (record { low = o.low; high = o.high; first = w.file.low; last = o.few; on = on })).free
 
 -- A page that a look finds.
 pub record Looks (v : Volume) (f p : ℕ) : Type 0 where

@@ -1,10 +1,12 @@
 -- The sector that answers a question lies inside the volume: its slot is one of the file's.
-use mathlib.Core.Path.{refl}
-use Prim.Native.Nat.{◌+◌, ◌*◌, ◌≤◌}
+use mathlib.Core.Path.{◌≡◌, refl, sym, subst}
+use Prim.Native.Nat.{ℕ, ◌+◌, ◌*◌, ◌≤◌}
 use native.Mathlib.Omega.{arith}
 use lib.ListN.{length}
+use Rattle.std.specs.Prelude.{Result, Ok, Err, IfOk}
 use Rattle.interface.specs.declared.Session.{Session}
-use Rattle.interface.specs.Answers.{QueryAnswer, found, query_refused}
+use Rattle.interface.specs.declared.Refusal.{Refusal}
+use Rattle.interface.specs.Answers.{QueryAnswer, found, query_refused, query_answer_of}
 use Rattle.volume.specs.Volumes.{Volume, view}
 use Rattle.volume.proofs.ReadLaws.{few_sectors, slot_inside}
 use Rattle.rules.specs.Plans.{Query, read_page, look_page, entry_for, slot_for}
@@ -31,3 +33,9 @@ query_inside v s (look_page f p) = query_case (Inside v) v s (look_page f p) (λ
     let formed = h.formed in
     let inside = slot_inside v formed.tabled f (decided_slot (view v) f p) w.file (decided_below w.laws f p w.file w.page) in
     (inside, omega (arith, inside, formed.tabled.shaped.size, few_sectors v formed.tabled)))
+
+-- So is the one that the program's answer names.
+pub answer_inside : (v : Volume) (s : Session) (q : Query) (r : Result ℕ Refusal) → query_answer_of r ≡ query v s q
+    → IfOk r (λ n. 256 * n + 256 ≤ length v)
+answer_inside v s q (Ok n) e = (subst (Inside v) (sym e) (query_inside v s q)).0
+answer_inside v s q (Err r) e = tt

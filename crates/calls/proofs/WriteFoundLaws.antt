@@ -1,13 +1,14 @@
 -- What the tests of write found, taken apart, and what its stores rely on: the entry that the record has, or the slot chosen
 -- for a new one. The answer is one of three cases; the other two are another constructor's.
-use mathlib.Core.Path.{◌≡◌, refl, sym, ap, subst}
+use mathlib.Core.Path.{◌≡◌, refl, sym, subst}
 use mathlib.Core.Option.{Option, none, some}
 use Prim.Native.Nat.{ℕ, zero, suc, ◌<◌}
-use native.Mathlib.Omega.{arith}
 use lib.ListN.{length}
+use Rattle.std.specs.Prelude.{Ok}
 use Rattle.interface.specs.declared.Session.{Session}
 use Rattle.lists.specs.Lists.{first}
-use Rattle.sector.specs.Contents.{Bytes, Entry}
+use Rattle.sector.specs.Contents.{Bytes}
+use Rattle.sector.specs.declared.layout.Entry.{Entry}
 use Rattle.volume.specs.Places.{IsFile, file_at}
 use Rattle.volume.specs.Volumes.{Volume, view}
 use Rattle.volume.specs.Sound.{sound}
@@ -16,24 +17,14 @@ use Rattle.rules.specs.Refusals.{tests}
 use Rattle.rules.proofs.CallLaws.{passed}
 use Rattle.transaction.specs.Tested.{NewPage}
 use Rattle.transaction.proofs.TestedLaws.{old_slot, new_page}
-use Rattle.checks.specs.Writes.{WriteAnswer, refused_by, again, new, answer_by}
+use Rattle.checks.specs.declared.Target.{Target}
+use Rattle.checks.specs.Writes.{refused_by, again, new, answer_by, write_found}
 
 -- ------------------------------------------------------------------ the three answers
--- Which answer it is.
-abbrev kind : WriteAnswer → ℕ
-kind (refused_by n) = 0
-kind (again n) = 1
-kind (new n) = 2
-
-abbrev number : WriteAnswer → ℕ
-number (refused_by n) = n
-number (again n) = n
-number (new n) = n
-
 pub refused_by_lem : (m n : ℕ) (o : Option Entry) (r : ℕ) → refused_by m ≡ answer_by n o r → m ≡ n
-refused_by_lem m zero (some e) r h = omega (arith, ap kind h)
-refused_by_lem m zero none r h = omega (arith, ap kind h)
-refused_by_lem m (suc n) o r h = ap number h
+refused_by_lem m zero (some e) r h = cc
+refused_by_lem m zero none r h = cc
+refused_by_lem m (suc n) o r h = cc
 
 -- The page has an entry, with this slot.
 pub record AgainAt (n : ℕ) (o : Option Entry) (q : ℕ) : Type 0 where
@@ -43,9 +34,9 @@ pub record AgainAt (n : ℕ) (o : Option Entry) (q : ℕ) : Type 0 where
   pub slot : entry.slot ≡ q
 
 pub again_at : (q n : ℕ) (o : Option Entry) (r : ℕ) → again q ≡ answer_by n o r → AgainAt n o q
-again_at q zero (some e) r h = record { accepted = refl; entry = e; found = refl; slot = sym (ap number h) }
-again_at q zero none r h = absurd (omega (arith, ap kind h))
-again_at q (suc n) o r h = absurd (omega (arith, ap kind h))
+again_at q zero (some e) r h = record { accepted = refl; entry = e; found = refl; slot = cc }
+again_at q zero none r h = absurd (cc)
+again_at q (suc n) o r h = absurd (cc)
 
 -- The page has none, and a new one takes this slot.
 pub record NewAt (n : ℕ) (o : Option Entry) (r q : ℕ) : Type 0 where
@@ -54,9 +45,14 @@ pub record NewAt (n : ℕ) (o : Option Entry) (r q : ℕ) : Type 0 where
   pub slot : q ≡ r
 
 pub new_at : (q n : ℕ) (o : Option Entry) (r : ℕ) → new q ≡ answer_by n o r → NewAt n o r q
-new_at q zero none r h = record { accepted = refl; absent = refl; slot = ap number h }
-new_at q zero (some e) r h = absurd (omega (arith, ap kind h))
-new_at q (suc n) o r h = absurd (omega (arith, ap kind h))
+new_at q zero none r h = record { accepted = refl; absent = refl; slot = cc }
+new_at q zero (some e) r h = absurd (cc)
+new_at q (suc n) o r h = absurd (cc)
+
+-- A page that goes somewhere is one that no test refused.
+pub goes : (t : Target) (n : ℕ) (o : Option Entry) (r : ℕ) → write_found (Ok t) ≡ answer_by n o r → 0 ≡ n
+goes (Target.Again q) n o r h = (again_at q n o r h).accepted
+goes (Target.New q) n o r h = (new_at q n o r h).accepted
 
 -- ------------------------------------------------------------------ what the stores rely on
 module _ (v : Volume) (s : Session) (k f p : ℕ) (d : Bytes) (e : 0 ≡ first (tests (sound v) (view v) s (write k f p d))) where

@@ -1,10 +1,12 @@
 // The calls on a volume. Each tests its own arguments and refuses by the first refusal that applies, before any store;
 // then it makes the stores of its plan, as many as the budget allows.
-#![tactic(auto)]
+// A refusal hands the session back, too, so a call ends in a `match` and not by `?`: that would take a second function for each
+// call, and a closure for the stores would take a contract of its own.
+#![tactic(auto, using(crate::proofs::FactLaws::begins, crate::proofs::FactLaws::acts, crate::proofs::FactLaws::call_formed, crate::proofs::FactLaws::same_tests, crate::proofs::FactLaws::looks, rules::proofs::SpareLaws::may_ask, checks::proofs::VerdictLaws::sound_files, checks::proofs::WriteVerdictLaws::read_formed))]
 
 mod reply;
 
-ghost use Rattle.std.specs.Prelude.{◌≡◌, true, ◌≤◌};
+ghost use Rattle.std.specs.Prelude.{◌≡◌, true, ◌≤◌, ◌+◌, ◌*◌, length, IfOk};
 ghost use Rattle.interface.specs.Answers.{query_answer_of, count_answer_of};
 ghost use Rattle.sector.specs.Contents.{Table};
 ghost use Rattle.volume.specs.Places.{IsFile, slot_place, sector_of};
@@ -13,13 +15,14 @@ ghost use Rattle.volume.specs.Volumes.{view};
 ghost use Rattle.volume.specs.Sound.{sound};
 ghost use Rattle.volume.specs.WellFormed.{WellFormed};
 ghost use Rattle.rules.specs.Plans.{open_file, open_read, read_page, session_after};
-ghost use Rattle.rules.specs.Calls.{call, query, query_part, look_part};
+ghost use Rattle.rules.specs.Calls.{call, query, part_of, query_part, look_part};
 ghost use Rattle.rules.specs.Spare;
 ghost use Rattle.calls.specs.Replies.{replied};
 
 use crate::reply::{end, refuse};
-use checks::{Verdict, WriteVerdict};
-use interface::{CountOutcome, QueryOutcome, Reply, Session};
+use checks::Target;
+use interface::{Refusal, Reply, Session};
+use volume::{FormedVolume, SoundVolume};
 
 // Starts a transaction of the client: recovers what an earlier one left, and opens its record. Ruled out: a session
 // handed back without the mark; an orphaned transaction's files left held (`recovery/must-fail/idle_at_once`).
@@ -27,8 +30,8 @@ pub fn begin(volume: &mut [u8], session: Session, client: u8, budget: u8) -> Rep
     ensures { replied result volume.new ≡ call volume.old session (Rattle.rules.specs.Plans.begin client) budget }
 {
     match checks::check_begin(volume, session, client) {
-        Verdict::Refused(r) => refuse(session, r),
-        Verdict::Accepted => {
+        Err(r) => refuse(session, r),
+        Ok(()) => {
             let run = transaction::begin_stores(volume, client, budget);
             end(run, sessions::set_active(session, client, true))
         }
@@ -42,8 +45,8 @@ pub fn open(volume: &mut [u8], session: Session, client: u8, file: u8, budget: u
     ensures { replied result volume.new ≡ call volume.old session (open_file client file) budget }
 {
     match checks::check_open(volume, session, client, file) {
-        Verdict::Refused(r) => refuse(session, r),
-        Verdict::Accepted => {
+        Err(r) => refuse(session, r),
+        Ok(()) => {
             let run = transaction::open_stores(volume, client, file, budget);
             end(run, sessions::without_reading(session, client, file))
         }
@@ -51,9 +54,9 @@ pub fn open(volume: &mut [u8], session: Session, client: u8, file: u8, budget: u
 }
 
 // The session with client k's reading hold of file f, unless k holds the file already.
-fn with_hold(v: &[u8], s: Session, k: u8, f: u8) -> Session
-    requires { (sound v.now ≡ true) × (1 ≤ k) × (k ≤ 4) × IsFile (view v.now).table f }
-    ensures { result ≡ session_after (view v.now) s (open_read k f) }
+fn with_hold(v: SoundVolume<'_>, s: Session, k: u8, f: u8) -> Session
+    requires { (1 ≤ k) × (k ≤ 4) × IsFile (view v.bytes.now).table f }
+    ensures { result ≡ session_after (view v.entry.bytes.now) s (open_read k f) }
 {
     if checks::holds_either(v, s, k, f) {
         return s;
@@ -68,9 +71,9 @@ pub fn open_read(volume: &mut [u8], session: Session, client: u8, file: u8, budg
     ensures { replied result volume.new ≡ call volume.old session (open_read client file) budget }
 {
     match checks::check_open_read(volume, session, client, file) {
-        Verdict::Refused(r) => refuse(session, r),
-        Verdict::Accepted => {
-            let next = with_hold(volume, session, client, file);
+        Err(r) => refuse(session, r),
+        Ok(()) => {
+            let next = with_hold(SoundVolume { bytes: volume }, session, client, file);
             let run = transaction::open_read_stores(volume, client, file, budget);
             end(run, next)
         }
@@ -79,25 +82,33 @@ pub fn open_read(volume: &mut [u8], session: Session, client: u8, file: u8, budg
 
 // The sector that has the page as the client sees it. Ruled out: an answer by the map where the record has the
 // page (`slots/must-fail/read_by_map_alone`); an answer for a file that the client holds neither way.
-pub fn read(volume: &[u8], session: Session, client: u8, file: u8, page: u8) -> QueryOutcome
+pub fn read(volume: &[u8], session: Session, client: u8, file: u8, page: u8) -> Result<u16, Refusal>
     ensures { query_answer_of result ≡ query volume.now session (read_page client file page) }
 {
-    match checks::check_read(volume, session, client, file, page) {
-        Verdict::Refused(r) => QueryOutcome::Refused(r),
-        Verdict::Accepted => {
-            let slot = slots::read_slot(volume, client, file, page);
-            QueryOutcome::Sector(slot_sector(volume, file, slot))
-        }
-    }
+    let v = checks::check_read(volume, session, client, file, page)?.formed();
+    let slot = slots::read_slot(v, client, file, page);
+    Ok(slot_sector(v, file, slot))
 }
 
 // The sector of slot r of file f.
-fn slot_sector(v: &[u8], f: u8, r: u8) -> u16
-    requires { WellFormed v.now × IsFile (view v.now).table f }
-    ensures { result ≡ sector_of (view v.now).table (slot_place f r) }
+fn slot_sector(v: FormedVolume<'_>, f: u8, r: u8) -> u16
+    requires { IsFile (view v.bytes.now).table f }
+    ensures { result ≡ sector_of (view v.entry.bytes.now).table (slot_place f r) }
 {
-    let h = volume::header_sector(v, f);
-    (h + 1 + sector::wide(r)) as u16
+    // `as`, since it fits by proof: `try_from` would only add an `unwrap`.
+    let h = v.tabled().header_sector(f);
+    (h + 1 + usize::from(r)) as u16
+}
+
+// The sector that the answer to a question names, as a part of the volume, or an empty part for a refusal.
+fn part_of(v: &[u8], answer: Result<u16, Refusal>) -> &[u8]
+    requires { IfOk answer (λ n. 256 * n + 256 ≤ length v.now) }
+    ensures { result.now ≡ part_of v.now (query_answer_of answer) }
+{
+    match answer {
+        Err(_) => &v[0..0],
+        Ok(n) => sector::part(v, usize::from(n)),
+    }
 }
 
 // The page itself: the part of the volume that `read` names, or an empty part where it refuses. Ruled out: another
@@ -106,26 +117,19 @@ fn slot_sector(v: &[u8], f: u8, r: u8) -> u16
 pub fn page(volume: &[u8], session: Session, client: u8, file: u8, page: u8) -> &[u8]
     ensures { result.now ≡ query_part volume.now session (read_page client file page) }
 {
-    match read(volume, session, client, file, page) {
-        QueryOutcome::Refused(_) => &volume[0..0],
-        QueryOutcome::Sector(n) => sector::part(volume, n as usize),
-    }
+    part_of(volume, read(volume, session, client, file, page))
 }
 
 // The sector that has the page of the decided content, for anyone who looks. Ruled out: an answer by the map alone where the
 // holder's record is decided (`slots/must-fail/look_by_map_alone`), or by the entries where it is only open
 // (`slots/must-fail/look_into_an_open_record`); a refusal because a client holds the file
 // (`rules/must-fail/look_blocked_by_client`).
-pub fn look(volume: &[u8], file: u8, page: u8) -> QueryOutcome
+pub fn look(volume: &[u8], file: u8, page: u8) -> Result<u16, Refusal>
     ensures { query_answer_of result ≡ Rattle.rules.specs.Calls.look volume.now file page }
 {
-    match checks::check_look(volume, file, page) {
-        Verdict::Refused(r) => QueryOutcome::Refused(r),
-        Verdict::Accepted => {
-            let slot = slots::decided_slot(volume, file, page);
-            QueryOutcome::Sector(slot_sector(volume, file, slot))
-        }
-    }
+    let v = checks::check_look(volume, file, page)?;
+    let slot = slots::decided_slot(v, file, page);
+    Ok(slot_sector(v.formed(), file, slot))
 }
 
 // The page itself: the part of the volume that `look` names, or an empty part where it refuses. Ruled out: another page's
@@ -133,24 +137,17 @@ pub fn look(volume: &[u8], file: u8, page: u8) -> QueryOutcome
 pub fn look_part(volume: &[u8], file: u8, page: u8) -> &[u8]
     ensures { result.now ≡ look_part volume.now file page }
 {
-    match look(volume, file, page) {
-        QueryOutcome::Refused(_) => &volume[0..0],
-        QueryOutcome::Sector(n) => sector::part(volume, n as usize),
-    }
+    part_of(volume, look(volume, file, page))
 }
 
 // How many slots the file's map leaves: what its header says, whatever the rest of the volume holds. Ruled out: all its slots
 // counted (`rules/must-fail/spare_answers_all`), or another byte of the header answered (`sector/must-fail/holder_as_count`);
 // a refusal because of a record or another header (`rules/must-fail/spare_tests_the_volume`).
-pub fn spare(volume: &[u8], file: u8) -> CountOutcome
+pub fn spare(volume: &[u8], file: u8) -> Result<u8, Refusal>
     ensures { count_answer_of result ≡ Spare.spare volume.now file }
 {
-    match checks::check_spare(volume, file) {
-        Verdict::Refused(r) => CountOutcome::Refused(r),
-        Verdict::Accepted => CountOutcome::Count(sector::header_spare(volume::header(
-            volume, file,
-        ))),
-    }
+    let v = checks::check_spare(volume, file)?;
+    Ok(sector::header_spare(v.header(file)))
 }
 
 // Writes 256 bytes as the page, in the client's transaction. Ruled out: a slot chosen by the map alone
@@ -168,15 +165,17 @@ pub fn write(
     ensures { replied result volume.new ≡ call volume.old session (Rattle.rules.specs.Plans.write client file page bytes.now) budget }
 {
     match checks::check_write(volume, session, client, file, page, bytes) {
-        WriteVerdict::Refused(r) => refuse(session, r),
-        WriteVerdict::Again(slot) => end(
-            transaction::write_again(volume, file, slot, bytes, budget),
-            session,
-        ),
-        WriteVerdict::New(slot) => end(
-            transaction::write_new(volume, client, file, page, slot, bytes, budget),
-            session,
-        ),
+        Err(r) => refuse(session, r),
+        Ok(target) => {
+            let src = bytes.as_array().unwrap();
+            let made = match target {
+                Target::Again(slot) => transaction::write_again(volume, file, slot, src, budget),
+                Target::New(slot) => {
+                    transaction::write_new(volume, client, file, page, slot, src, budget)
+                }
+            };
+            end(made, session)
+        }
     }
 }
 
@@ -187,8 +186,8 @@ pub fn commit(volume: &mut [u8], session: Session, client: u8, budget: u8) -> Re
     ensures { replied result volume.new ≡ call volume.old session (Rattle.rules.specs.Plans.commit client) budget }
 {
     match checks::check_active(volume, session, client) {
-        Verdict::Refused(r) => refuse(session, r),
-        Verdict::Accepted => {
+        Err(r) => refuse(session, r),
+        Ok(_) => {
             let made = transaction::commit_stores(volume, client, budget);
             end(made, sessions::without_client(session, client))
         }
@@ -201,8 +200,8 @@ pub fn abort(volume: &mut [u8], session: Session, client: u8, budget: u8) -> Rep
     ensures { replied result volume.new ≡ call volume.old session (Rattle.rules.specs.Plans.abort client) budget }
 {
     match checks::check_active(volume, session, client) {
-        Verdict::Refused(r) => refuse(session, r),
-        Verdict::Accepted => {
+        Err(r) => refuse(session, r),
+        Ok(_) => {
             let run = transaction::abort_stores(volume, client, budget);
             end(run, sessions::without_client(session, client))
         }

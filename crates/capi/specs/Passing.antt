@@ -1,6 +1,6 @@
 -- How sessions, replies and answers are passed to C. Kind is 0 for done, 1 for cut, 2 for refused, 3 for a sector, 4 for a count;
 -- the number beside it is that of the stores made, of the refusal or of the sector, or the count.
-use Rattle.std.specs.Prelude.{Bool, true, false, ℕ, ltb}
+use Rattle.std.specs.Prelude.{Bool, true, false, ℕ, ltb, Result, Ok, Err}
 use Rattle.interface.specs.declared.Session.{Session}
 use Rattle.interface.specs.Answers.{session_of, marks_byte, Answer, done, crashed, refused, QueryAnswer, found, query_refused, CountAnswer, counted, count_refused, FormatAnswer, format_done, format_refused}
 use Rattle.lists.specs.Lists.{when◌then◌else◌}
@@ -8,7 +8,7 @@ use Rattle.volume.specs.Volumes.{Volume}
 use Rattle.volume.specs.Sound.{sound}
 use Rattle.rules.specs.Plans.{Call, Query}
 use Rattle.rules.specs.Calls.{After, call, query}
-use Rattle.listing.specs.declared.ListOutcome.{ListOutcome}
+use Rattle.listing.specs.declared.ListError.{ListError}
 use Rattle.capi.specs.declared.VolSession.{VolSession}
 use Rattle.capi.specs.declared.VolReply.{VolReply}
 use Rattle.capi.specs.declared.VolAnswer.{VolAnswer}
@@ -52,6 +52,10 @@ passed_format (format_refused n) = record { kind = 2; number = n }
 abbrev pub other_bits_refused : Volume → VolAnswer
 other_bits_refused v = record { kind = 2; number = when sound v then 2 else 1 }
 
+-- The session that C gives, or the refusal of one with other bits.
+unfoldable pub session_given : Volume → VolSession → Result Session VolAnswer
+session_given v c = when has_other_bits c then Err (other_bits_refused v) else Ok (session_from c)
+
 -- ------------------------------------------------------------------ replies
 -- An answer with a session.
 abbrev pub reply_with : VolSession → VolAnswer → VolReply
@@ -83,7 +87,6 @@ truth true = 1
 truth false = 0
 
 -- The length of a listing; 0 if none was written.
-abbrev pub listed_length : ListOutcome → ℕ
-listed_length (ListOutcome.Listed n) = n
-listed_length ListOutcome.NotSound = 0
-listed_length ListOutcome.NoRoom = 0
+abbrev pub listed_length : Result ℕ ListError → ℕ
+listed_length (Ok n) = n
+listed_length (Err e) = 0

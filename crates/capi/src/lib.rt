@@ -2,7 +2,7 @@
 // Sessions, replies and answers are structs by value. Ruled out of every call that takes a session: a fifth mark passed over
 // (`must-fail/fifth_bit_accepted`), and another session than the one given handed back by a refusal (`PassLaws.refused_given`);
 // of every answer, one kind taken for another (`must-fail/sector_as_refusal`).
-#![tactic(auto)]
+#![tactic(auto, unfolding(crate::specs::Passing::called_by, crate::specs::Passing::asked_by, crate::specs::Passing::session_given))]
 
 mod pass;
 
@@ -15,13 +15,11 @@ ghost use Rattle.rules.specs.Calls.{look};
 ghost use Rattle.rules.specs.Spare.{spare};
 ghost use Rattle.capi.specs.Passing.{passed_query, passed_count, passed_format, truth, called_by, asked_by, listed_length};
 
-use crate::pass::{
-    pass, pass_count, pass_format, pass_list, pass_query, refuse_bits, refuse_session, session_from,
-};
+use crate::pass::{reply_with, session_given};
 
 // A session: bit k - 1 of `active` is client k's mark, bit f - 1 of `reading[k - 1]` its reading hold of file f.
 #[repr(C)]
-#[derive(Clone, Copy)]
+#[derive(Clone, Copy, Debug, PartialEq, Eq)]
 pub struct VolSession {
     pub active: u8,
     pub reading: [u16; 4],
@@ -29,7 +27,7 @@ pub struct VolSession {
 
 // The reply of a call that takes a session and a budget.
 #[repr(C)]
-#[derive(Clone, Copy)]
+#[derive(Clone, Copy, Debug, PartialEq, Eq)]
 pub struct VolReply {
     pub session: VolSession,
     pub kind: u8,
@@ -38,7 +36,7 @@ pub struct VolReply {
 
 // The answer of a call that hands back no session.
 #[repr(C)]
-#[derive(Clone, Copy)]
+#[derive(Clone, Copy, Debug, PartialEq, Eq)]
 pub struct VolAnswer {
     pub kind: u8,
     pub number: u16,
@@ -50,7 +48,7 @@ pub extern "C" fn vol_format(volume: &mut [u8], clients: u8, shape: &[u8]) -> Vo
     ensures value { result ≡ passed_format (Rattle.volume.specs.Format.format volume.old clients shape.now).answer }
     ensures volume_after { volume.new ≡ (Rattle.volume.specs.Format.format volume.old clients shape.now).volume }
 {
-    pass_format(format::format(volume, clients, shape))
+    format::format(volume, clients, shape).into()
 }
 
 // Whether the volume is sound: 1 or 0.
@@ -58,10 +56,7 @@ pub extern "C" fn vol_format(volume: &mut [u8], clients: u8, shape: &[u8]) -> Vo
 pub extern "C" fn vol_is_sound(volume: &[u8]) -> u64
     ensures { result ≡ truth (sound volume.now) }
 {
-    if soundness::is_sound(volume) {
-        return 1;
-    }
-    0
+    u64::from(soundness::is_sound(volume))
 }
 
 // Starts a transaction of the client.
@@ -74,10 +69,10 @@ pub extern "C" fn vol_begin(
 ) -> VolReply
     ensures { (record { reply = result; volume = volume.new }) ≡ called_by volume.old session (Rattle.rules.specs.Plans.begin client) budget }
 {
-    if 15 < session.active {
-        return refuse_session(volume, session);
+    match session_given(volume, session) {
+        Err(x) => reply_with(session, x),
+        Ok(s) => calls::begin(volume, s, client, budget).into(),
     }
-    pass(calls::begin(volume, session_from(session), client, budget))
 }
 
 // Gives the file to the client for writing.
@@ -91,10 +86,10 @@ pub extern "C" fn vol_open(
 ) -> VolReply
     ensures { (record { reply = result; volume = volume.new }) ≡ called_by volume.old session (open_file client file) budget }
 {
-    if 15 < session.active {
-        return refuse_session(volume, session);
+    match session_given(volume, session) {
+        Err(x) => reply_with(session, x),
+        Ok(s) => calls::open(volume, s, client, file, budget).into(),
     }
-    pass(calls::open(volume, session_from(session), client, file, budget))
 }
 
 // Gives the file to the client for reading. Ruled out: client and file exchanged (`must-fail/client_and_file_exchanged`); the
@@ -109,10 +104,10 @@ pub extern "C" fn vol_open_read(
 ) -> VolReply
     ensures { (record { reply = result; volume = volume.new }) ≡ called_by volume.old session (open_read client file) budget }
 {
-    if 15 < session.active {
-        return refuse_session(volume, session);
+    match session_given(volume, session) {
+        Err(x) => reply_with(session, x),
+        Ok(s) => calls::open_read(volume, s, client, file, budget).into(),
     }
-    pass(calls::open_read(volume, session_from(session), client, file, budget))
 }
 
 // The sector that has the page as the client sees it.
@@ -126,10 +121,10 @@ pub extern "C" fn vol_read(
 ) -> VolAnswer
     ensures { result ≡ asked_by volume.now session (read_page client file page) }
 {
-    if 15 < session.active {
-        return refuse_bits(volume);
+    match session_given(volume, session) {
+        Err(x) => x,
+        Ok(s) => calls::read(volume, s, client, file, page).into(),
     }
-    pass_query(calls::read(volume, session_from(session), client, file, page))
 }
 
 // The sector that has the page of the decided content, without a session. Ruled out: file and page exchanged
@@ -138,7 +133,7 @@ pub extern "C" fn vol_read(
 pub extern "C" fn vol_look(volume: &[u8], file: u8, page: u8) -> VolAnswer
     ensures { result ≡ passed_query (look volume.now file page) }
 {
-    pass_query(calls::look(volume, file, page))
+    calls::look(volume, file, page).into()
 }
 
 // How many slots the file's map leaves. Ruled out: a count told as a sector (`must-fail/count_as_sector`); the count of another
@@ -147,7 +142,7 @@ pub extern "C" fn vol_look(volume: &[u8], file: u8, page: u8) -> VolAnswer
 pub extern "C" fn vol_spare(volume: &[u8], file: u8) -> VolAnswer
     ensures { result ≡ passed_count (spare volume.now file) }
 {
-    pass_count(calls::spare(volume, file))
+    calls::spare(volume, file).into()
 }
 
 // Writes the bytes as the page, in the client's transaction.
@@ -163,18 +158,10 @@ pub extern "C" fn vol_write(
 ) -> VolReply
     ensures { (record { reply = result; volume = volume.new }) ≡ called_by volume.old session (Rattle.rules.specs.Plans.write client file page bytes.now) budget }
 {
-    if 15 < session.active {
-        return refuse_session(volume, session);
+    match session_given(volume, session) {
+        Err(x) => reply_with(session, x),
+        Ok(s) => calls::write(volume, s, client, file, page, bytes, budget).into(),
     }
-    pass(calls::write(
-        volume,
-        session_from(session),
-        client,
-        file,
-        page,
-        bytes,
-        budget,
-    ))
 }
 
 // Ends the client's transaction: its pages become the files' content.
@@ -187,10 +174,10 @@ pub extern "C" fn vol_commit(
 ) -> VolReply
     ensures { (record { reply = result; volume = volume.new }) ≡ called_by volume.old session (Rattle.rules.specs.Plans.commit client) budget }
 {
-    if 15 < session.active {
-        return refuse_session(volume, session);
+    match session_given(volume, session) {
+        Err(x) => reply_with(session, x),
+        Ok(s) => calls::commit(volume, s, client, budget).into(),
     }
-    pass(calls::commit(volume, session_from(session), client, budget))
 }
 
 // Ends the client's transaction and drops its pages.
@@ -203,10 +190,10 @@ pub extern "C" fn vol_abort(
 ) -> VolReply
     ensures { (record { reply = result; volume = volume.new }) ≡ called_by volume.old session (Rattle.rules.specs.Plans.abort client) budget }
 {
-    if 15 < session.active {
-        return refuse_session(volume, session);
+    match session_given(volume, session) {
+        Err(x) => reply_with(session, x),
+        Ok(s) => calls::abort(volume, s, client, budget).into(),
     }
-    pass(calls::abort(volume, session_from(session), client, budget))
 }
 
 // Writes the listing of the volume to the front of `out`: its length, or 0 if nothing was written.
@@ -215,5 +202,5 @@ pub extern "C" fn vol_list(volume: &[u8], out: &mut [u8]) -> u64
     ensures value { result ≡ listed_length (listed volume.now out.old).outcome }
     ensures out_after { out.new ≡ (listed volume.now out.old).out }
 {
-    pass_list(listing::list(volume, out))
+    listing::list(volume, out).unwrap_or(0) as u64
 }

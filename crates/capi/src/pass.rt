@@ -1,100 +1,114 @@
-// Sessions, replies and answers, as C gets them and gives them.
+// Sessions, replies and answers, as C gets them and gives them. The kinds 0 to 4 stay numbers: `include/volume.h` has them so.
 ghost use Rattle.std.specs.Prelude.{◌≡◌};
 ghost use Rattle.interface.specs.Answers.{refusal_number, answer_of, query_answer_of, count_answer_of, format_answer_of};
-ghost use Rattle.capi.specs.Passing.{session_from, passed_session, passed_answer, passed_query, passed_count, passed_format, other_bits_refused, reply_with, listed_length};
+ghost use Rattle.capi.specs.Passing.{session_from, passed_session, passed_answer, passed_query, passed_count, passed_format, other_bits_refused, reply_with, session_given};
 
 use crate::{VolAnswer, VolReply, VolSession};
-use interface::{CountOutcome, FormatOutcome, Outcome, QueryOutcome, Refusal, Reply, Session};
-use listing::ListOutcome;
+use interface::{Outcome, Refusal, Reply, Session};
 
 // The session that C gives.
-pub fn session_from(s: VolSession) -> Session
-    ensures { result ≡ session_from s }
-{
-    let reading = s.reading;
-    interface::session_of(s.active, reading)
-}
+impl From<VolSession> for Session {
+    ghost from_gives = { λ c s. s ≡ session_from c };
 
-// A session as C gets it.
-fn pass_session(s: Session) -> VolSession
-    ensures { result ≡ passed_session s }
-{
-    let reading = s.reading;
-    VolSession {
-        active: interface::marks_byte(s),
-        reading: reading,
+    fn from(c: VolSession) -> Session {
+        Session::from_marks(c.active, c.reading)
     }
 }
 
-// The number of a refusal, or a count.
-fn wide(n: u8) -> u16
-    ensures { result ≡ n }
-{
-    n as u16
+// A session as C gets it.
+impl From<Session> for VolSession {
+    ghost from_gives = { λ s c. c ≡ passed_session s };
+
+    fn from(s: Session) -> VolSession {
+        let reading = s.reading;
+        VolSession {
+            active: s.marks_byte(),
+            reading,
+        }
+    }
 }
 
 // A refusal.
-fn refused(r: Refusal) -> VolAnswer
-    ensures { result ≡ record { kind = 2; number = refusal_number r } }
-{
-    VolAnswer {
-        kind: 2,
-        number: wide(interface::number(r)),
+impl From<Refusal> for VolAnswer {
+    ghost from_gives = { λ r x. x ≡ record { kind = 2; number = refusal_number r } };
+
+    fn from(r: Refusal) -> VolAnswer {
+        VolAnswer {
+            kind: 2,
+            number: u16::from(u8::from(r)),
+        }
     }
 }
 
 // A call's answer.
-fn pass_outcome(o: Outcome) -> VolAnswer
-    ensures { result ≡ passed_answer (answer_of o) }
-{
-    match o {
-        Outcome::Done(n) => VolAnswer {
-            kind: 0,
-            number: wide(n),
-        },
-        Outcome::Crashed(n) => VolAnswer {
-            kind: 1,
-            number: wide(n),
-        },
-        Outcome::Refused(r) => refused(r),
+impl From<Result<Outcome, Refusal>> for VolAnswer {
+    ghost from_gives = { λ o x. x ≡ passed_answer (answer_of o) };
+
+    fn from(o: Result<Outcome, Refusal>) -> VolAnswer {
+        match o {
+            Ok(Outcome::Done(n)) => VolAnswer {
+                kind: 0,
+                number: u16::from(n),
+            },
+            Ok(Outcome::Crashed(n)) => VolAnswer {
+                kind: 1,
+                number: u16::from(n),
+            },
+            Err(r) => r.into(),
+        }
     }
 }
 
 // A question's answer.
-pub fn pass_query(o: QueryOutcome) -> VolAnswer
-    ensures { result ≡ passed_query (query_answer_of o) }
-{
-    match o {
-        QueryOutcome::Sector(n) => VolAnswer { kind: 3, number: n },
-        QueryOutcome::Refused(r) => refused(r),
+impl From<Result<u16, Refusal>> for VolAnswer {
+    ghost from_gives = { λ o x. x ≡ passed_query (query_answer_of o) };
+
+    fn from(o: Result<u16, Refusal>) -> VolAnswer {
+        match o {
+            Ok(n) => VolAnswer { kind: 3, number: n },
+            Err(r) => r.into(),
+        }
     }
 }
 
 // A count.
-pub fn pass_count(o: CountOutcome) -> VolAnswer
-    ensures { result ≡ passed_count (count_answer_of o) }
-{
-    match o {
-        CountOutcome::Count(n) => VolAnswer {
-            kind: 4,
-            number: wide(n),
-        },
-        CountOutcome::Refused(r) => refused(r),
+impl From<Result<u8, Refusal>> for VolAnswer {
+    ghost from_gives = { λ o x. x ≡ passed_count (count_answer_of o) };
+
+    fn from(o: Result<u8, Refusal>) -> VolAnswer {
+        match o {
+            Ok(n) => VolAnswer {
+                kind: 4,
+                number: u16::from(n),
+            },
+            Err(r) => r.into(),
+        }
     }
 }
 
 // A format's answer.
-pub fn pass_format(o: FormatOutcome) -> VolAnswer
-    ensures { result ≡ passed_format (format_answer_of o) }
-{
-    match o {
-        FormatOutcome::Done => VolAnswer { kind: 0, number: 0 },
-        FormatOutcome::Refused(r) => refused(r),
+impl From<Result<(), Refusal>> for VolAnswer {
+    ghost from_gives = { λ o x. x ≡ passed_format (format_answer_of o) };
+
+    fn from(o: Result<(), Refusal>) -> VolAnswer {
+        match o {
+            Ok(()) => VolAnswer { kind: 0, number: 0 },
+            Err(r) => r.into(),
+        }
+    }
+}
+
+// A call's reply.
+impl From<Reply> for VolReply {
+    ghost from_gives = { λ r x. x ≡ reply_with (passed_session r.session) (passed_answer (answer_of r.outcome)) };
+
+    fn from(r: Reply) -> VolReply {
+        reply_with(r.session.into(), r.outcome.into())
     }
 }
 
 // An answer with a session.
-fn reply_with(s: VolSession, x: VolAnswer) -> VolReply
+pub fn reply_with(s: VolSession, x: VolAnswer) -> VolReply
     ensures { result ≡ reply_with s x }
 {
     VolReply {
@@ -104,39 +118,15 @@ fn reply_with(s: VolSession, x: VolAnswer) -> VolReply
     }
 }
 
-// A call's reply.
-pub fn pass(r: Reply) -> VolReply
-    ensures { result ≡ reply_with (passed_session r.session) (passed_answer (answer_of r.outcome)) }
+// The session that C gives, or the refusal of one with other bits than four marks.
+pub fn session_given(v: &[u8], s: VolSession) -> Result<Session, VolAnswer>
+    ensures { result ≡ session_given v.now s }
 {
-    let s = r.session;
-    let o = r.outcome;
-    reply_with(pass_session(s), pass_outcome(o))
-}
-
-// The refusal of a session with other bits than four marks.
-pub fn refuse_bits(v: &[u8]) -> VolAnswer
-    ensures { result ≡ other_bits_refused v.now }
-{
+    if s.active <= 15 {
+        return Ok(s.into());
+    }
     if soundness::is_sound(v) {
-        return VolAnswer { kind: 2, number: 2 };
+        return Err(Refusal::BadSession.into());
     }
-    VolAnswer { kind: 2, number: 1 }
-}
-
-// The same with the session given.
-pub fn refuse_session(v: &[u8], s: VolSession) -> VolReply
-    ensures { result ≡ reply_with s (other_bits_refused v.now) }
-{
-    reply_with(s, refuse_bits(v))
-}
-
-// The length of a listing, or 0.
-pub fn pass_list(o: ListOutcome) -> u64
-    ensures { result ≡ listed_length o }
-{
-    match o {
-        ListOutcome::Listed(n) => n as u64,
-        ListOutcome::NotSound => 0,
-        ListOutcome::NoRoom => 0,
-    }
+    Err(Refusal::NotSound.into())
 }

@@ -7,18 +7,17 @@ use Prim.Native.Nat.{ℕ, zero, suc, ◌≤◌}
 use native.Mathlib.Nat.{not-suc-le-zero}
 use borrow.Author.Tests.{ltb-true, not-false}
 use Rattle.interface.specs.declared.Session.{Session}
-use Rattle.lists.specs.Lists.{first, is_some}
+use Rattle.lists.specs.Lists.{first}
 use Rattle.lists.proofs.SearchLaws.{first_none}
-use Rattle.sector.specs.Contents.{Bytes, Entry}
+use Rattle.sector.specs.declared.layout.Entry.{Entry}
 use Rattle.volume.specs.Places.{is_client, is_file, IsClient, IsPage}
-use Rattle.volume.specs.Views.{View}
 use Rattle.volume.specs.Volumes.{Volume, view}
 use Rattle.volume.specs.Sound.{sound}
 use Rattle.volume.specs.WellFormed.{WellFormed}
 use Rattle.volume.proofs.PlaceLaws.{client_of, file_of}
 use Rattle.volume.proofs.WellFormedLaws.{sound_formed}
-use Rattle.rules.specs.Plans.{read_page, chosen}
-use Rattle.rules.specs.Refusals.{page_missing, active_tests, write_tests, slot_tests, query_tests}
+use Rattle.rules.specs.Plans.{read_page}
+use Rattle.rules.specs.Refusals.{page_missing, active_tests, write_tests, query_tests}
 use Rattle.checks.specs.Writes.{WriteAnswer, refused_by, answer_by}
 
 -- What holds where client and file exist, and the file has the page.
@@ -53,7 +52,3 @@ refused_answer (suc n) m o r pos e = rw (← e)
 -- The answer is by the number.
 pub same_answer_lem : (w : WriteAnswer) (n m : ℕ) (o : Option Entry) (r : ℕ) → n ≡ m → w ≡ answer_by n o r → w ≡ answer_by m o r
 same_answer_lem w n m o r e q = rw (← e) q
-
--- The tests of where a page goes, and their answer, by the entry that the record has for it.
-abbrev pub answer_for : View → ℕ → ℕ → ℕ → Bytes → Option Entry → WriteAnswer
-answer_for a k f p d o = answer_by (first (slot_tests (not (is_some o)) a k f d)) o (chosen a k f p)

@@ -1,22 +1,23 @@
 -- What the tests of write found: the number of the refusal, or where the page goes.
 use Rattle.std.proofs.Math.Option.{Option, none, some}
-use Rattle.std.specs.Prelude.{ℕ, zero, suc}
+use Rattle.std.specs.Prelude.{ℕ, zero, suc, Result, Ok, Err}
+use Rattle.interface.specs.declared.Refusal.{Refusal}
 use Rattle.interface.specs.Answers.{refusal_number}
-use Rattle.sector.specs.Contents.{Entry}
+use Rattle.sector.specs.declared.layout.Entry.{Entry}
 use Rattle.volume.specs.Views.{View}
 use Rattle.rules.specs.Plans.{entry_for, chosen}
-use Rattle.checks.specs.declared.WriteVerdict.{WriteVerdict}
-use Rattle.checks.specs.declared.WriteVerdict.TheVariants.{Refused, Again, New}
+use Rattle.checks.specs.declared.Target.{Target}
+use Rattle.checks.specs.declared.Target.TheVariants.{Again, New}
 
 -- A refusal's number, the slot that the record has for the page, or the one that a new entry takes.
 pub data WriteAnswer : Type 0 where
   refused_by again new : ℕ → WriteAnswer
 
--- Each case of the verdict.
-abbrev pub write_found : WriteVerdict → WriteAnswer
-write_found (Refused r) = refused_by (refusal_number r)
-write_found (Again r) = again r
-write_found (New r) = new r
+-- Each case of the result.
+abbrev pub write_found : Result Target Refusal → WriteAnswer
+write_found (Err r) = refused_by (refusal_number r)
+write_found (Ok (Again r)) = again r
+write_found (Ok (New r)) = new r
 
 -- The answer by the number that the tests give, the entry that the record has for the page, and the slot that is chosen.
 abbrev pub answer_by : ℕ → Option Entry → ℕ → WriteAnswer

@@ -9,24 +9,15 @@ mod spare;
 mod write;
 
 pub use call::{check_active, check_begin};
-use interface::Refusal;
 pub use look::check_look;
 pub use open::{check_open, check_open_read};
 pub use page::{check_read, holds_either};
 pub use spare::check_spare;
 pub use write::check_write;
 
-// What the tests of a call found.
-#[derive(Clone, Copy)]
-pub enum Verdict {
-    Accepted,
-    Refused(Refusal),
-}
-
-// What the tests of write found: a refusal, or where the page goes.
-#[derive(Clone, Copy)]
-pub enum WriteVerdict {
-    Refused(Refusal),
+// Where the page of a write goes.
+#[derive(Clone, Copy, Debug, PartialEq, Eq)]
+pub enum Target {
     // The slot that the record has for the page already.
     Again(u8),
     // The slot that a new entry takes.

@@ -1,26 +1,29 @@
 // The tests of look.
-ghost use Rattle.std.specs.Prelude.{◌≡◌};
+#![tactic(auto, using(volume::proofs::WellFormedLaws::sound_formed), unfolding(lists::specs::Lists::first))]
+
+ghost use Rattle.std.specs.Prelude.{◌≡◌, IfOk};
 ghost use Rattle.lists.specs.Lists.{first};
 ghost use Rattle.volume.specs.Volumes.{view};
 ghost use Rattle.volume.specs.Sound.{sound};
 ghost use Rattle.rules.specs.Refusals.{look_tests};
 ghost use Rattle.checks.specs.Verdicts.{number_of};
 
-use crate::Verdict;
 use crate::call::is_file;
 use crate::page::check_page;
 use interface::Refusal;
+use soundness::sound_volume;
+use volume::SoundVolume;
 
 // Tests 1, 6 and 9: the volume is sound, file f exists, and it has page p. Ruled out: a refusal because a client holds the file
 // (`rules/must-fail/look_blocked_by_client`); another number than the table's (`must-fail/look_at_no_file`).
-pub fn check_look(v: &[u8], f: u8, p: u8) -> Verdict
-    ensures { number_of result ≡ first (look_tests (sound v.now) (view v.now) f p) }
+pub fn check_look(v: &[u8], f: u8, p: u8) -> Result<SoundVolume<'_>, Refusal>
+    ensures tested { number_of result ≡ first (look_tests (sound v.now) (view v.now) f p) }
+    ensures same { IfOk result (λ w. w.bytes.now ≡ v.now) }
 {
-    if !soundness::is_sound(v) {
-        return Verdict::Refused(Refusal::NotSound);
+    let w = sound_volume(v).ok_or(Refusal::NotSound)?;
+    if !is_file(w.formed().tabled(), f) {
+        return Err(Refusal::NoFile);
     }
-    if !is_file(v, f) {
-        return Verdict::Refused(Refusal::NoFile);
-    }
-    check_page(v, f, p)
+    check_page(w, f, p)?;
+    Ok(w)
 }

@@ -4,7 +4,8 @@ use Prim.Native.Nat.{ℕ}
 use mathlib.Core.Bool.{Bool}
 use Rattle.interface.specs.declared.Session.{Session}
 use Rattle.interface.specs.declared.Reply.{Reply}
-use Rattle.interface.specs.declared.QueryOutcome.{QueryOutcome}
+use Rattle.std.specs.Prelude.{Result}
+use Rattle.interface.specs.declared.Refusal.{Refusal}
 use Rattle.interface.specs.Answers.{answer_of, query_answer_of}
 use Rattle.sector.specs.Contents.{Bytes}
 use Rattle.volume.specs.Volumes.{Volume}
@@ -14,7 +15,7 @@ use Rattle.calls.specs.Replies.{replied}
 use Rattle.atomicity.specs.Model.{Model}
 use Rattle.atomicity.specs.Runs.{Step, calls, asks, given, stepped}
 use Rattle.atomicity.specs.Transcripts.{of_call, of_query}
-use Rattle.commands.specs.declared.Action.{Action}
+use Rattle.script.specs.declared.Action.{Action}
 use Rattle.commands.specs.declared.Command.{Command}
 use Rattle.commands.specs.declared.Told.{Told}
 use Rattle.commands.specs.declared.Performed.{Performed}
@@ -41,7 +42,7 @@ module _ (v w : Volume) (s g : Session) (m : Model) (p : Performed) where
       })
 
 -- A question leaves what it finds.
-pub performed_query : (v : Volume) (s g : Session) (m : Model) (p : Performed) (crash : Bool) (q : Query) (x : Step) (o : QueryOutcome)
+pub performed_query : (v : Volume) (s g : Session) (m : Model) (p : Performed) (crash : Bool) (q : Query) (x : Step) (o : Result ℕ Refusal)
     → x ≡ asks crash q → g ≡ given crash s → query_answer_of o ≡ query v g q → p ≡ record { told = Told.Query o; session = s }
     → IsPerformed (run_of v s m) x p v
 unfolding stepped

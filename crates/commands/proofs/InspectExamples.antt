@@ -6,6 +6,7 @@ use mathlib.Core.List.{List, [], ◌∷◌, map}
 use Prim.Native.Nat.{ℕ}
 use Prim.Native.String.{String}
 use lib.ListN.{replicate}
+use Rattle.std.specs.Prelude.{Option, Some, None}
 use Rattle.interface.specs.declared.Session.{Session}
 use Rattle.interface.specs.Answers.{new_session, session_of}
 use Rattle.interface.proofs.AnswerExamples.{marks}
@@ -15,7 +16,6 @@ use Rattle.rules.specs.Sessions.{is_reading}
 use Rattle.rules.specs.Spare.{spare}
 use Rattle.script.specs.Fields.{from_field}
 use Rattle.script.specs.Kinds.{bytes_of}
-use Rattle.commands.specs.declared.Added.{Added}
 use Rattle.commands.specs.Inspect.{session_set, is_hold, reading_added, shows_hold, spare_asked}
 
 -- "K 1 to 4, F 1 to 16"
@@ -34,16 +34,16 @@ abbrev session : List ℕ → Session
 session words = session_of 3 words
 
 -- What a line adds where client 1 reads file 2.
-abbrev adds : String → Added
+abbrev adds : String → Option Session
 adds l = reading_added (session (2 ∷ 0 ∷ 0 ∷ 0 ∷ [])) (bytes_of l)
 
 -- The hold is added to those there are, also of a client that isn't active; a client 0 or a file 0 is none.
 lines_add : map adds ("reading 1 1" ∷ "reading 4 16" ∷ "reading 1 2" ∷ "reading 0 1" ∷ "reading 1 0" ∷ [])
-    ≡ record { is_understood = true; session = session (3 ∷ 0 ∷ 0 ∷ 0 ∷ []) }
-    ∷ record { is_understood = true; session = session (2 ∷ 0 ∷ 0 ∷ 32768 ∷ []) }
-    ∷ record { is_understood = true; session = session (2 ∷ 0 ∷ 0 ∷ 0 ∷ []) }
-    ∷ record { is_understood = false; session = session (2 ∷ 0 ∷ 0 ∷ 0 ∷ []) }
-    ∷ record { is_understood = false; session = session (2 ∷ 0 ∷ 0 ∷ 0 ∷ []) }
+    ≡ Some (session (3 ∷ 0 ∷ 0 ∷ 0 ∷ []))
+    ∷ Some (session (2 ∷ 0 ∷ 0 ∷ 32768 ∷ []))
+    ∷ Some (session (2 ∷ 0 ∷ 0 ∷ 0 ∷ []))
+    ∷ None
+    ∷ None
     ∷ []
 unfolding reading_added from_field with_bit
 lines_add = refl

@@ -6,7 +6,7 @@ use Rattle.script.specs.Fields.{from_field}
 use Rattle.script.specs.Kinds.{bytes_of}
 use Rattle.rules.specs.Plans.{begin, open_file, open_read, write, commit, abort, read_page, look_page}
 use Rattle.atomicity.specs.Runs.{calls, asks}
-use Rattle.commands.specs.declared.Action.{Action}
+use Rattle.script.specs.declared.Action.{Action}
 use Rattle.commands.specs.Commands.{query_of, step_of}
 use Rattle.commands.specs.Lines.{values, line_command, line_step}
 

@@ -9,7 +9,7 @@ use Rattle.rules.specs.Plans.{begin, open_file, open_read, write, commit, abort,
 use Rattle.atomicity.specs.Model.{Model}
 use Rattle.atomicity.specs.Runs.{Step, calls, asks, Configuration, stepped}
 use Rattle.atomicity.specs.Transcripts.{StepAnswer, of_call, of_query, event_of}
-use Rattle.commands.specs.declared.Action.{Action}
+use Rattle.script.specs.declared.Action.{Action}
 use Rattle.commands.specs.declared.Command.{Command}
 use Rattle.commands.specs.declared.Told.{Told}
 use Rattle.commands.specs.declared.Performed.{Performed}

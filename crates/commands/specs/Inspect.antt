@@ -1,5 +1,5 @@
 -- The lines that are passed over, those that set or show the session, and those that look at the volume or change it by hand.
-use Rattle.std.specs.Prelude.{Bool, true, false, ◌&&◌, [], ◌∷◌, ℕ, ◌/◌, eqb, ltb, length, set}
+use Rattle.std.specs.Prelude.{Bool, true, false, ◌&&◌, [], ◌∷◌, ℕ, ◌/◌, eqb, ltb, length, set, Option, Some, None}
 use Rattle.interface.specs.declared.Session.{Session}
 use Rattle.interface.specs.Answers.{none_reading, session_of, CountAnswer}
 use Rattle.lists.specs.Lists.{when◌then◌else◌, between}
@@ -9,7 +9,6 @@ use Rattle.volume.specs.Volumes.{Volume}
 use Rattle.rules.specs.Sessions.{is_reading, with_reading}
 use Rattle.rules.specs.Spare.{spare}
 use Rattle.script.specs.Fields.{argument}
-use Rattle.commands.specs.declared.Added.{Added}
 use Rattle.commands.specs.Lines.{byte_argument}
 
 -- "Empty lines and lines that begin with `#` are skipped."
@@ -26,11 +25,11 @@ abbrev pub is_hold : (client : ℕ) → (file : ℕ) → Bool
 is_hold k f = between 1 k 4 && between 1 f 16
 
 -- `reading K F`: "the session gets that reading hold", if there is room for it.
-unfoldable pub reading_added : Session → Bytes → Added
+unfoldable pub reading_added : Session → Bytes → Option Session
 reading_added s l =
     when is_hold (byte_argument 1 l) (byte_argument 2 l)
-    then record { is_understood = true; session = with_reading s (byte_argument 1 l) (byte_argument 2 l) }
-    else record { is_understood = false; session = s }
+    then Some (with_reading s (byte_argument 1 l) (byte_argument 2 l))
+    else None
 
 -- `session` has a line for this client and file: the client holds the file for reading.
 abbrev pub shows_hold : Session → (client : ℕ) → (file : ℕ) → Bool
@@ -52,5 +51,5 @@ poked v l =
     else record { is_inside = false; volume = v }
 
 -- `dump S`: sector S; nothing if it isn't in the volume.
-unfoldable pub dumped : Volume → Bytes → Bytes
-dumped v l = when ltb (argument 1 l) (length v / 256) then sector v (argument 1 l) else []
+unfoldable pub dumped : Volume → Bytes → Option Bytes
+dumped v l = when ltb (argument 1 l) (length v / 256) then Some (sector v (argument 1 l)) else None

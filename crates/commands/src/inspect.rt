@@ -2,6 +2,7 @@
 // passed over. Ruled out: a change of the byte after the last one (`must-fail/poke_past_the_end`); a sector shown that
 // the end of the volume cuts off.
 ghost use Rattle.std.specs.Prelude.{◌≡◌};
+ghost use Rattle.std.specs.Option.{option_map};
 ghost use Rattle.interface.specs.Answers.{count_answer_of};
 ghost use Rattle.rules.specs.Calls.{query_part};
 ghost use Rattle.script.specs.Fields;
@@ -9,9 +10,9 @@ ghost use Rattle.commands.specs.Commands.{query_of};
 ghost use Rattle.commands.specs.Lines.{line_command};
 ghost use Rattle.commands.specs.Inspect.{is_remark, session_set, is_hold, reading_added, shows_hold, spare_asked, poked, dumped};
 
+use crate::Action;
 use crate::lines::{byte_argument, command};
-use crate::{Action, Added};
-use interface::{CountOutcome, Session};
+use interface::{Refusal, Session};
 use script::fields::argument;
 use sector::Sector;
 
@@ -19,10 +20,7 @@ use sector::Sector;
 pub fn is_remark(line: &[u8]) -> bool
     ensures { result ≡ is_remark line.now }
 {
-    if line.len() == 0 {
-        return true;
-    }
-    line[0] == b'#'
+    line.is_empty() || line[0] == b'#'
 }
 
 // `session M`. Ruled out: the holds from before kept; client 4's mark taken for client 1's
@@ -30,7 +28,7 @@ pub fn is_remark(line: &[u8]) -> bool
 pub fn session(line: &[u8]) -> Session
     ensures { result ≡ session_set line.now }
 {
-    interface::session_of(byte_argument(line, 1), [0; 4])
+    Session::from_marks(byte_argument(line, 1), [0; 4])
 }
 
 // Whether a session has room for a reading hold of this client and file.
@@ -41,31 +39,22 @@ fn is_hold(k: u8, f: u8) -> bool
 }
 
 // `reading K F`. Ruled out: client 0 taken for client 1 (`must-fail/client_0_reads`); the holds from before dropped.
-pub fn reading(s: Session, line: &[u8]) -> Added
+pub fn reading(s: Session, line: &[u8]) -> Option<Session>
     ensures { result ≡ reading_added s line.now }
 {
     let k = byte_argument(line, 1);
     let f = byte_argument(line, 2);
     if is_hold(k, f) {
-        return Added {
-            is_understood: true,
-            session: sessions::with_reading(s, k, f),
-        };
+        return Some(sessions::with_reading(s, k, f));
     }
-    Added {
-        is_understood: false,
-        session: s,
-    }
+    None
 }
 
 // `session`: whether it has a line for this client and file. Ruled out: file 17 taken for file 1; a hold of client 0.
 pub fn shows_hold(s: Session, k: u8, f: u8) -> bool
     ensures { result ≡ shows_hold s k f }
 {
-    if is_hold(k, f) {
-        return sessions::is_reading(s, k, f);
-    }
-    false
+    is_hold(k, f) && sessions::is_reading(s, k, f)
 }
 
 // `read K F P`, `look F P`: the second call, which hands back the page itself.
@@ -76,7 +65,7 @@ pub fn page<'a>(v: &'a [u8], s: Session, a: Action, line: &[u8]) -> &'a [u8]
 }
 
 // `spare F`. Ruled out: the question about another file (`must-fail/spare_by_another_argument`); the answer to another question.
-pub fn spare(v: &[u8], line: &[u8]) -> CountOutcome
+pub fn spare(v: &[u8], line: &[u8]) -> Result<u8, Refusal>
     ensures { count_answer_of result ≡ spare_asked v.now line.now }
 {
     calls::spare(v, byte_argument(line, 1))
@@ -86,6 +75,7 @@ pub fn spare(v: &[u8], line: &[u8]) -> CountOutcome
 fn address(line: &[u8], n: usize) -> usize
     ensures { result ≡ Fields.argument n line.now }
 {
+    // `as`, since there is no `From` of these types, and `try_from` would only add an `unwrap`.
     argument(line, n) as usize
 }
 
@@ -101,15 +91,14 @@ pub fn poke(v: &mut [u8], line: &[u8]) -> bool
     true
 }
 
-// `dump S`: the sector, or an empty part if there is none.
-pub fn dump<'a>(v: &'a [u8], line: &[u8]) -> &'a [u8]
-    ensures { result.now ≡ dumped v.now line.now }
+// `dump S`: the sector, if there is one.
+pub fn dump<'a>(v: &'a [u8], line: &[u8]) -> Option<&'a [u8]>
+    ensures { option_map (λ part. part.now) result ≡ dumped v.now line.now }
 {
     let s = address(line, 1);
     if v.len() / Sector::SIZE <= s {
-        return &v[0..0];
+        return None;
     }
     let at = Sector::SIZE * s;
-    let e = at + Sector::SIZE;
-    &v[at..e]
+    Some(&v[at..at + Sector::SIZE])
 }

@@ -6,26 +6,13 @@ pub mod inspect;
 pub mod lines;
 mod performer;
 
-use interface::{Outcome, QueryOutcome, Session};
-use performer::is_look;
+use interface::{Outcome, Refusal, Session};
 pub use performer::{page, perform};
-
-// Which call a command is.
-#[derive(Clone, Copy)]
-pub enum Action {
-    Begin,
-    Open,
-    OpenRead,
-    Write,
-    Commit,
-    Abort,
-    Read,
-    Look,
-}
+pub use script::Action;
 
 // A call with its arguments; those that it doesn't take are ignored. `crash`: the supply failed before it, so it is
 // given a new session. What a write stores is lent separately.
-#[derive(Clone, Copy)]
+#[derive(Clone, Copy, Debug, PartialEq, Eq)]
 pub struct Command {
     pub action: Action,
     pub crash: bool,
@@ -36,22 +23,15 @@ pub struct Command {
 }
 
 // What a command answered.
-#[derive(Clone, Copy)]
+#[derive(Clone, Copy, Debug, PartialEq, Eq)]
 pub enum Told {
-    Call(Outcome),
-    Query(QueryOutcome),
+    Call(Result<Outcome, Refusal>),
+    Query(Result<u16, Refusal>),
 }
 
 // Its answer, and the session last handed back: a question hands back none, so it is the one from before it.
-#[derive(Clone, Copy)]
+#[derive(Clone, Copy, Debug, PartialEq, Eq)]
 pub struct Performed {
     pub told: Told,
-    pub session: Session,
-}
-
-// Whether a session has room for the reading hold that a line names, and the session, with that hold if so.
-#[derive(Clone, Copy)]
-pub struct Added {
-    pub is_understood: bool,
     pub session: Session,
 }

@@ -7,40 +7,35 @@ ghost use Rattle.atomicity.specs.Model.{Model};
 ghost use Rattle.atomicity.specs.Runs.{given};
 ghost use Rattle.atomicity.specs.Transcripts.{of_call};
 ghost use Rattle.commands.specs.declared.Told.{Told};
-ghost use Rattle.commands.specs.Commands.{is_look, query_of, step_of, run_of, told_of, IsPerformed};
+ghost use Rattle.commands.specs.Commands.{query_of, step_of, run_of, told_of, IsPerformed};
 
 use crate::{Action, Command, Performed, Told};
-use interface::{QueryOutcome, Reply, Session};
+use interface::{Refusal, Reply, Session};
 
 // The session that a command is given.
 fn given_session(s: Session, crash: bool) -> Session
     ensures { result ≡ given crash s }
 {
-    if crash {
-        return Session::new();
-    }
-    s
+    if crash { Session::new() } else { s }
 }
 
 // What a call that hands back a session answered.
 fn told(r: Reply) -> Performed
     ensures { (told_of result.told ≡ of_call (answer_of r.outcome)) × (result.session ≡ r.session) }
 {
-    let o = r.outcome;
-    let s = r.session;
     Performed {
-        told: Told::Call(o),
-        session: s,
+        told: Told::Call(r.outcome),
+        session: r.session,
     }
 }
 
 // What a question answered. It hands back no session, so the one from before it stays.
-fn asked(o: QueryOutcome, s: Session) -> Performed
-    ensures { result ≡ record { told = Told.Query o; session = s } }
+fn asked(o: Result<u16, Refusal>, session: Session) -> Performed
+    ensures { result ≡ record { told = Told.Query o; session = session } }
 {
     Performed {
         told: Told::Query(o),
-        session: s,
+        session,
     }
 }
 
@@ -50,8 +45,7 @@ pub fn perform(v: &mut [u8], s: Session, c: Command, bytes: &[u8]) -> Performed
     ensures { (m : Model) → IsPerformed (run_of v.old s m) (step_of c bytes.now) result v.new }
 {
     let g = given_session(s, c.crash);
-    let a = c.action;
-    match a {
+    match c.action {
         Action::Begin => told(calls::begin(v, g, c.client, c.budget)),
         Action::Open => told(calls::open(v, g, c.client, c.file, c.budget)),
         Action::OpenRead => told(calls::open_read(v, g, c.client, c.file, c.budget)),
@@ -63,29 +57,12 @@ pub fn perform(v: &mut [u8], s: Session, c: Command, bytes: &[u8]) -> Performed
     }
 }
 
-// Whether the call is a look.
-pub fn is_look(a: Action) -> bool
-    ensures { result ≡ is_look a }
-{
-    match a {
-        Action::Begin => false,
-        Action::Open => false,
-        Action::OpenRead => false,
-        Action::Write => false,
-        Action::Commit => false,
-        Action::Abort => false,
-        Action::Read => false,
-        Action::Look => true,
-    }
-}
-
 // The second call of a question: the page itself, or an empty part where the question is refused. Ruled out: a look's page taken as
 // a client's read (`must-fail/look_reads`).
 pub fn page<'a>(v: &'a [u8], s: Session, c: Command) -> &'a [u8]
     ensures { result.now ≡ query_part v.now (given c.crash s) (query_of c) }
 {
-    let a = c.action;
-    if is_look(a) {
+    if c.action == Action::Look {
         return calls::look_part(v, c.file, c.page);
     }
     calls::page(v, given_session(s, c.crash), c.client, c.file, c.page)

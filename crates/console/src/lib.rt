@@ -8,7 +8,7 @@ use std::io;
 use std::io::{Read, Write};
 
 // Reads until the buffer is full or the input ends, and answers how many bytes of the buffer were read. Ruled out: a count past the
-// buffer (`must-fail/one_more_than_read`).
+// buffer (`must-fail/one_more_than_read`). By hand: `read_exact` refuses a shorter input, and what `io::copy` counts has no bound.
 pub fn read_full(rt: &impl Input, buf: &mut [u8]) -> io::Result<usize>
     ensures { IfOk result (λ n. n ≤ length buf.new) }
 {

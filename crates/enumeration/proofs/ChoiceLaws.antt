@@ -15,7 +15,8 @@ use Rattle.lists.proofs.ListLaws.{every_at}
 use Rattle.lists.proofs.SearchLaws.{from_at}
 use Rattle.lists.proofs.CaseLaws.{by_equal}
 use Rattle.sector.specs.Layout.{entry_limit}
-use Rattle.sector.specs.Contents.{Bytes, Entry, idle_record}
+use Rattle.sector.specs.Contents.{Bytes, idle_record}
+use Rattle.sector.specs.declared.layout.Entry.{Entry}
 use Rattle.sector.specs.Encoding.{encode_record}
 use Rattle.sector.specs.Decoding.{count_in}
 use Rattle.sector.proofs.EditLaws.{record_count}
@@ -100,8 +101,15 @@ header_at b lt =
     ∙ ap (λ k. record { holder = k; map = get_or map_choices (b % 9) [] }) holder
 
 -- A header with the map of the number.
-pub header_made : (b x y : ℕ) → b < 18 → x ∷ y ∷ [] ≡ get_or map_choices (b % 9) [] → record { holder = b / 9; map = x ∷ y ∷ [] } ≡ get_or header_choices b no_header
-header_made b x y lt e = ap (λ (m : List ℕ). record { holder = b / 9; map = m }) e ∙ sym (header_at b lt)
+pub header_made : (b : ℕ) (m : List ℕ) → b < 18 → length m ≡ 2 → m ≡ get_or map_choices (b % 9) []
+    → record { holder = b / 9; map = get_or m 0 0 ∷ get_or m 1 0 ∷ [] } ≡ get_or header_choices b no_header
+header_made b m lt two e = ap (λ (m : List ℕ). record { holder = b / 9; map = m }) (both m two ∙ e) ∙ sym (header_at b lt)
+  where
+    both : (m : List ℕ) → length m ≡ 2 → get_or m 0 0 ∷ get_or m 1 0 ∷ [] ≡ m
+    both [] e = absurd (omega arith)
+    both (x ∷ []) e = absurd (omega arith)
+    both (x ∷ y ∷ []) e = refl
+    both (x ∷ y ∷ z ∷ m) e = absurd (omega arith)
 
 pub candidate_at : (i : ℕ) → i < 2322
     → get_or candidates i [] ≡ small_volume (get_or record_choices (i / 18) idle_record) (get_or header_choices (i % 18) no_header)

@@ -13,7 +13,8 @@ use lib.ListN.{length, drop, drop_of_length-le}
 use Rattle.lists.specs.Lists.{every, any, filter}
 use Rattle.lists.proofs.ListLaws.{and_left, and_right, or_none, all_at}
 use Rattle.lists.proofs.CaseLaws.{by_equal}
-use Rattle.sector.specs.Contents.{Table, Entry, Record, Header}
+use Rattle.sector.specs.Contents.{Table, Record, Header}
+use Rattle.sector.specs.declared.layout.Entry.{Entry}
 use Rattle.sector.specs.Entries.{for_page}
 use Rattle.volume.specs.Places.{sector_after, end_sector, Place, table_place, record_place, header_place, slot_place, Exists}
 use Rattle.volume.specs.Lawful.{entry_fits, pages_differ, record_fits}

@@ -1,10 +1,14 @@
 -- A candidate as it is made: the layout of the small shape is the volume of an idle record and a new header, and each store puts
 -- another one in its sector.
-use mathlib.Core.Path.{◌≡◌, sym, ap, ◌∙◌}
+use mathlib.Core.Path.{◌≡◌, refl, sym, ap, ◌∙◌}
 use mathlib.Core.List.{[], ◌∷◌}
 use Prim.Native.Nat.{ℕ, ◌/◌, ◌%◌, ◌≤◌, ◌<◌}
 use native.Mathlib.Omega.{arith}
 use lib.ListN.{length, get_or}
+use Rattle.std.specs.Prelude.{Result, Ok, Err, ⊤}
+use Rattle.std.specs.Result.{IsOk}
+use Rattle.interface.specs.declared.Refusal.{Refusal}
+use Rattle.format.specs.Outcomes.{formatted}
 use Rattle.lists.specs.Lists.{all, first}
 use Rattle.sector.specs.Layout.{items_room, entry_limit}
 use Rattle.sector.specs.Contents.{Record, Header, idle_record, new_header}
@@ -32,6 +36,12 @@ new_small = new_volume_lem small_table
 pub laid_out : (v : Volume) (f : Formatted) → length v ≡ 1536 → f ≡ format v 1 (2 ∷ 3 ∷ []) → f.volume ≡ small_volume idle_record (new_header small_file)
 unfolding format format_tests length_fits shape_fits end_fits all first files_of sector_after
 laid_out v f size e = ap (λ (f : Formatted). f.volume) e ∙ rw size new_small
+
+-- It isn't refused.
+pub laid_ok : (v w : Volume) (r : Result ⊤ Refusal) → length v ≡ 1536 → formatted r w ≡ format v 1 (2 ∷ 3 ∷ []) → IsOk r
+unfolding format format_tests length_fits shape_fits end_fits all first files_of sector_after
+laid_ok v w (Ok _) size e = refl
+laid_ok v w (Err x) size e = let answer = rw size at (ap (λ (f : Formatted). f.answer) e) in absurd (cc)
 
 -- ------------------------------------------------------------------ the stores
 table_full : length (encode_table small_table) ≡ 256

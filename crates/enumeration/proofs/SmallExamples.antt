@@ -15,12 +15,12 @@ use Rattle.volume.specs.Volumes.{Volume, table_of, record_in, header_in, slot_in
 use Rattle.volume.specs.Sound.{encoded, canonical, sound}
 use Rattle.volume.specs.Assembled.{file_owners, owners, joined}
 use Rattle.volume.specs.Format.{repeated, new_files, new_volume}
-use Rattle.enumeration.specs.declared.AdvanceOutcome.{AdvanceOutcome}
+use Rattle.std.specs.Prelude.{Ok, Err, Some, None}
 use Rattle.enumeration.specs.Lists.{lists_of}
 use Rattle.enumeration.specs.Choices.{small_file, small_table, entry_choices, entry_lists, record_choices, slots_left, map_choices, header_choices}
 use Rattle.enumeration.specs.Small.{small_volume, candidates, small_volumes}
 use Rattle.enumeration.specs.Statements.{precedes}
-use Rattle.enumeration.specs.Advances.{first_sound, advance, walked}
+use Rattle.enumeration.specs.Advances.{bad_length, first_sound, advance, walked}
 use Rattle.enumeration.proofs.CountLaws.{fitted, volumes_fitted}
 
 -- ------------------------------------------------------------------ lists and their order
@@ -78,11 +78,11 @@ sevens : ℕ → Volume
 sevens n = replicate n 7
 
 -- Of another length it stays as it is, wherever the advance begins.
-other_lengths : map (λ n. advance (sevens n) 0) (0 ∷ 1535 ∷ 1537 ∷ []) ≡ map (λ n. record { answer = AdvanceOutcome.BadLength; volume = sevens n }) (0 ∷ 1535 ∷ 1537 ∷ [])
+other_lengths : map (λ n. advance (sevens n) 0) (0 ∷ 1535 ∷ 1537 ∷ []) ≡ map (λ n. record { answer = Err bad_length; volume = sevens n }) (0 ∷ 1535 ∷ 1537 ∷ [])
 unfolding advance sevens
 other_lengths = refl
 
-short_at_the_end : advance (sevens 1535) 2322 ≡ record { answer = AdvanceOutcome.BadLength; volume = sevens 1535 }
+short_at_the_end : advance (sevens 1535) 2322 ≡ record { answer = Err bad_length; volume = sevens 1535 }
 unfolding advance sevens
 short_at_the_end = refl
 
@@ -92,12 +92,12 @@ unfolding walked advance sevens
 no_walk = refl
 
 -- Candidate 0 has the map 00 00, which isn't sound; 1 is.
-first_advance : advance (sevens 1536) 0 ≡ record { answer = AdvanceOutcome.To 2; volume = small_volume idle_record (new_header small_file) }
+first_advance : advance (sevens 1536) 0 ≡ record { answer = Ok (Some 2); volume = small_volume idle_record (new_header small_file) }
 unfolding sevens flat_map lists_of entry_choices entry_lists record_choices map_choices header_choices candidates first_sound advance small_volume owners file_owners joined zero_sector all sector padded file_bytes encode_table entry_bytes encode_record encode_header decode_files decode_table decode_entries decode_record decode_header sector_after lawful table_of record_in header_in slot_in view encoded canonical sound
 first_advance = refl
 
 -- Candidate 2,239 is the last that is sound; there are 2,322.
 last_advances : map (advance (sevens 1536)) (2239 ∷ 2240 ∷ 2322 ∷ 5000 ∷ [])
-    ≡ record { answer = AdvanceOutcome.To 2240; volume = last_volume } ∷ map (λ (n : ℕ). record { answer = AdvanceOutcome.End; volume = sevens 1536 }) (1 ∷ 2 ∷ 3 ∷ [])
+    ≡ record { answer = Ok (Some 2240); volume = last_volume } ∷ map (λ (n : ℕ). record { answer = Ok None; volume = sevens 1536 }) (1 ∷ 2 ∷ 3 ∷ [])
 unfolding sevens flat_map lists_of entry_choices entry_lists record_choices map_choices header_choices candidates first_sound advance small_volume owners file_owners joined zero_sector all sector padded file_bytes encode_table entry_bytes encode_record encode_header decode_files decode_table decode_entries decode_record decode_header sector_after lawful table_of record_in header_in slot_in view encoded canonical sound
 last_advances = refl

@@ -3,7 +3,9 @@ use mathlib.Core.List.{List, [], ◌∷◌, map, flat_map}
 use Rattle.std.specs.Prelude.{ℕ, suc, ◌-◌, eqb, ltb, length}
 use Rattle.lists.specs.Lists.{filter, from}
 use Rattle.sector.specs.Layout.{decided_state}
-use Rattle.sector.specs.Contents.{File, Table, Entry, Record, Header}
+use Rattle.sector.specs.Contents.{Table, Record, Header}
+use Rattle.sector.specs.declared.layout.File.{File}
+use Rattle.sector.specs.declared.layout.Entry.{Entry}
 use Rattle.enumeration.specs.Lists.{lists_of}
 
 -- "P = 2, R = 3"

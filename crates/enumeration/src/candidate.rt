@@ -1,5 +1,6 @@
 // A candidate made in an array: the layout of the small shape, then the record and the header of its number. Numbers are taken
-// apart by division, as the lists of choices are put together: the last part varies fastest.
+// apart by division, as the lists of choices are put together: the last part varies fastest. A part becomes a byte by a cast, which
+// is shown to fit: `try_from` would only add an `unwrap`.
 ghost use Rattle.std.specs.Prelude.{◌≡◌, [], ◌*◌, ◌<◌, length, get_or};
 ghost use Rattle.sector.specs.Layout.{entry_limit};
 ghost use Rattle.sector.specs.Contents.{Record, idle_record, appended};
@@ -19,12 +20,10 @@ use sector::{append_entry, empty_record, new_header, set_holder, set_map_slot, s
 
 // Entry e is appended to the record.
 fn append_choice(buf: &mut [u8; 256], e: usize)
-    requires { (length buf.old ≡ 256) × (count_in buf.old < entry_limit) × (e < length entry_choices) }
+    requires { (count_in buf.old < entry_limit) × (e < length entry_choices) }
     ensures buf_after { (r : Record) → buf.old ≡ encode_record r → buf.new ≡ encode_record (appended r (get_or entry_choices e no_entry)) }
-    ensures buf_len { length buf.new ≡ 256 }
 {
-    let entry = entry_at(e);
-    append_entry(buf, 1, entry.0, entry.1);
+    append_entry(buf, entry_at(e));
 }
 
 // The record with this state and the entries of this list, made of zeros. A list that isn't empty is an earlier one with one
@@ -32,7 +31,6 @@ fn append_choice(buf: &mut [u8; 256], e: usize)
 fn build_record(buf: &mut [u8; 256], state: u8, list: usize)
     requires { (buf.old ≡ zero_sector) × (list < length entry_lists) }
     ensures buf_after { buf.new ≡ encode_record (record { state = state; entries = get_or entry_lists list [] }) }
-    ensures buf_len { length buf.new ≡ 256 }
 {
     if list == 0 {
         empty_record(buf, state);
@@ -43,20 +41,21 @@ fn build_record(buf: &mut [u8; 256], state: u8, list: usize)
 }
 
 // Header b, made of zeros.
+#[tactic(auto, using(crate::proofs::ChoiceLaws::maps_count, crate::proofs::ChoiceLaws::headers_count))]
 fn build_header(buf: &mut [u8; 256], b: usize)
     requires { (buf.old ≡ zero_sector) × (b < length header_choices) }
     ensures buf_after { buf.new ≡ encode_header small_file (get_or header_choices b no_header) }
-    ensures buf_len { length buf.new ≡ 256 }
 {
-    let map = map_at(b % Choices::MAPS);
+    let [first, second] = map_at(b % Choices::MAPS);
     let shape = Small::SHAPE;
     new_header(buf, &shape, 0);
     set_holder(buf, (b / Choices::MAPS) as u8);
-    set_map_slot(buf, 0, map.0);
-    set_map_slot(buf, 1, map.1);
+    set_map_slot(buf, 0, first);
+    set_map_slot(buf, 1, second);
 }
 
 // Record a is stored.
+#[tactic(auto, using(crate::proofs::ChoiceLaws::lists_count, crate::proofs::ChoiceLaws::records_count))]
 fn put_record(v: &mut [u8], a: usize)
     requires { (length v.old ≡ 256 * small_table.sectors) × (a < length record_choices) }
     ensures { v.new ≡ updated small_table v.old (set_record 1 (get_or record_choices a idle_record)) }
@@ -77,12 +76,13 @@ fn put_header(v: &mut [u8], b: usize)
 }
 
 // The array becomes candidate i.
+#[tactic(auto, using(crate::proofs::ChoiceLaws::records_count, crate::proofs::ChoiceLaws::headers_count, crate::proofs::ChoiceLaws::candidates_count))]
 pub fn make_candidate(v: &mut [u8], i: usize)
     requires { (length v.old ≡ 256 * small_table.sectors) × (i < length candidates) }
     ensures { v.new ≡ get_or candidates i [] }
 {
     let shape = Small::SHAPE;
-    format(v, Small::CLIENTS, &shape);
+    format(v, Small::CLIENTS, &shape).unwrap();
     put_record(v, i / Choices::HEADERS);
     put_header(v, i % Choices::HEADERS);
 }

@@ -1,7 +1,9 @@
 // The choices of `specs/Choices`, each by its number in the list there.
-ghost use Rattle.std.specs.Prelude.{◌≡◌, [], ◌∷◌, ◌<◌, length, get_or};
+ghost use Rattle.std.specs.Prelude.{◌≡◌, [], ◌<◌, length, get_or};
 ghost use Rattle.volume.specs.WellFormed.{no_entry};
 ghost use Rattle.enumeration.specs.Choices.{entry_choices, map_choices};
+
+use sector::Entry;
 
 // How many there are.
 #[derive(Clone, Copy)]
@@ -20,43 +22,41 @@ impl Choices {
     pub const CANDIDATES: usize = 2322;
 }
 
-// The page and the slot of an entry, or the slots of both pages in a map.
-#[derive(Clone, Copy)]
-pub struct Pair(pub u8, pub u8);
+// The page and the slot of each entry.
+const ENTRY_ROWS: [[u8; 2]; 6] = [[0, 0], [0, 1], [0, 2], [1, 0], [1, 1], [1, 2]];
 
-const ENTRY_ROWS: [Pair; 6] = [
-    Pair(0, 0),
-    Pair(0, 1),
-    Pair(0, 2),
-    Pair(1, 0),
-    Pair(1, 1),
-    Pair(1, 2),
-];
-
-const MAP_ROWS: [Pair; 9] = [
-    Pair(0, 0),
-    Pair(0, 1),
-    Pair(0, 2),
-    Pair(1, 0),
-    Pair(1, 1),
-    Pair(1, 2),
-    Pair(2, 0),
-    Pair(2, 1),
-    Pair(2, 2),
+// The slots of both pages in each map.
+const MAP_ROWS: [[u8; 2]; 9] = [
+    [0, 0],
+    [0, 1],
+    [0, 2],
+    [1, 0],
+    [1, 1],
+    [1, 2],
+    [2, 0],
+    [2, 1],
+    [2, 2],
 ];
 
 // Entry e, of file 1.
-pub fn entry_at(e: usize) -> Pair
+#[tactic(auto, using(crate::proofs::ChoiceLaws::entries_count))]
+pub fn entry_at(e: usize) -> Entry
     requires { e < length entry_choices }
-    ensures { record { file = 1; page = result.0; slot = result.1 } ≡ get_or entry_choices e no_entry }
+    ensures { result ≡ get_or entry_choices e no_entry }
 {
-    ENTRY_ROWS[e]
+    let [page, slot] = ENTRY_ROWS[e];
+    Entry {
+        file: 1,
+        page,
+        slot,
+    }
 }
 
 // Map m.
-pub fn map_at(m: usize) -> Pair
+#[tactic(auto, using(crate::proofs::ChoiceLaws::maps_count))]
+pub fn map_at(m: usize) -> [u8; 2]
     requires { m < length map_choices }
-    ensures { result.0 ∷ result.1 ∷ [] ≡ get_or map_choices m [] }
+    ensures { result ≡ get_or map_choices m [] }
 {
     MAP_ROWS[m]
 }

@@ -5,26 +5,29 @@
 mod candidate;
 mod choices;
 
-ghost use Rattle.std.specs.Prelude.{◌≡◌, ◌*◌, length, drop};
+ghost use Rattle.std.specs.Prelude.{◌≡◌, ◌*◌, length};
 ghost use Rattle.enumeration.specs.Choices.{small_table};
-ghost use Rattle.enumeration.specs.Small.{candidates, small_volumes};
-ghost use Rattle.enumeration.specs.Advances.{first_sound};
+ghost use Rattle.enumeration.specs.Small.{small_volumes};
+ghost use Rattle.enumeration.specs.Advances.{sound_from};
 ghost use Rattle.enumeration.specs.Advances;
 
 use crate::candidate::make_candidate;
 use crate::choices::Choices;
 use soundness::is_sound;
+use std::error::Error;
+use std::fmt;
 
-// What an advance answers.
-#[derive(Clone, Copy)]
-pub enum AdvanceOutcome {
-    // The array is the next small volume; the advance after it is to begin at this number.
-    To(usize),
-    // There is no further one; the array is as it was.
-    End,
-    // The array has another length than a small volume; it is as it was.
-    BadLength,
+// An array that was to be advanced has another length than a small volume; it is as it was.
+#[derive(Clone, Copy, Debug, PartialEq, Eq)]
+pub struct BadLength;
+
+impl fmt::Display for BadLength {
+    fn fmt<W: fmt::Write>(&self, f: &mut fmt::Formatter<W>) -> fmt::Result {
+        f.write_str("not as long as a small volume")
+    }
 }
+
+impl Error for BadLength {}
 
 // What all small volumes have in common.
 #[derive(Clone, Copy)]
@@ -50,45 +53,43 @@ pub fn count() -> usize
     270
 }
 
-// The number of the first sound candidate from number `from` on, or a number past the last candidate. Candidates are made in
-// the array.
-fn search(trial: &mut [u8], from: usize) -> usize
+// The number of the first sound candidate from number `from` on. Candidates are made in the array.
+#[tactic(auto, using(crate::proofs::ChoiceLaws::candidates_count))]
+fn search(trial: &mut [u8], from: usize) -> Option<usize>
     requires { length trial.old ≡ 256 * small_table.sectors }
-    ensures { result ≡ first_sound from (drop from candidates) }
+    ensures { result ≡ sound_from from }
 {
-    let mut i = from;
-    while i < Choices::CANDIDATES {
+    for i in from..Choices::CANDIDATES {
         make_candidate(trial, i);
         if is_sound(trial) {
-            return i;
+            return Some(i);
         }
-        i += 1;
     }
-    i
+    None
 }
 
 // The same, with an array of its own.
-fn next_sound(from: usize) -> usize
-    ensures { result ≡ first_sound from (drop from candidates) }
+fn next_sound(from: usize) -> Option<usize>
+    ensures { result ≡ sound_from from }
 {
     let mut trial = [0u8; Small::LENGTH];
     search(&mut trial, from)
 }
 
-// Puts the next small volume into the array: the first one from number `from` on (`PutsNext`). A walk through all of them
+// Puts the next small volume into the array: the first one from number `from` on (`PutsNext`), and answers the number at which the
+// advance after it is to begin; nothing, if there is no further one and the array is as it was. A walk through all of them
 // begins at 0 and goes on at the number answered (`Walks`). Ruled out: a volume that isn't sound
 // (`must-fail/soundness_not_tested`), one left out (`candidate_skipped`) or put twice (`volume_twice`, `last_volume_twice`); a
 // byte of the array changed where no volume is put.
-pub fn advance(v: &mut [u8], from: usize) -> AdvanceOutcome
+pub fn advance(v: &mut [u8], from: usize) -> Result<Option<usize>, BadLength>
     ensures { record { answer = result; volume = v.new } ≡ Advances.advance v.old from }
 {
     if v.len() != Small::LENGTH {
-        return AdvanceOutcome::BadLength;
+        return Err(BadLength);
     }
-    let i = next_sound(from);
-    if i < Choices::CANDIDATES {
-        make_candidate(v, i);
-        return AdvanceOutcome::To(i + 1);
-    }
-    AdvanceOutcome::End
+    let Some(i) = next_sound(from) else {
+        return Ok(None);
+    };
+    make_candidate(v, i);
+    Ok(Some(i + 1))
 }

@@ -1,25 +1,17 @@
--- Format's definition by its three tests, one after the other, and what they say where all of them hold.
-use mathlib.Core.Path.{◌≡◌, refl}
-use mathlib.Core.Bool.{true, not}
+-- What the three tests of format's definition say where all of them hold.
+use mathlib.Core.Path.{◌≡◌}
+use mathlib.Core.Bool.{true}
 use Prim.Native.Nat.{ℕ, ◌+◌, ◌*◌, ◌/◌, ◌%◌, ◌≤◌}
 use native.Mathlib.Omega.{arith}
 use borrow.Author.Tests.{eqb-true, leb-true}
 use lib.Dec.{eqb}
 use lib.ListN.{length}
-use Rattle.lists.specs.Lists.{when◌then◌else◌, first}
 use Rattle.sector.specs.Layout.{sector_limit, file_limit}
 use Rattle.sector.specs.Contents.{Bytes}
-use Rattle.volume.specs.Volumes.{Volume}
 use Rattle.lists.proofs.ListLaws.{all_at, and_left, and_right, between_true}
-use Rattle.volume.specs.Format.{length_fits, shape_fits, end_fits, table_for, format_tests, format_by, format}
+use Rattle.volume.specs.Format.{length_fits, shape_fits, end_fits, table_for}
 use Rattle.volume.proofs.PlaceLaws.{end_low}
 use Rattle.format.specs.Requests.{Fits}
-
-pub format_is : (v : Volume) (T : ℕ) (l : Bytes) → format v T l ≡ format_by
-    (when not (length_fits (length v)) then 13 else when not (shape_fits T l) then 14 else when not (end_fits (length v) T l) then 15 else 0)
-    v (table_for (length v) T l)
-unfolding format format_tests first
-format_is v T l = refl
 
 module _ (n T : ℕ) (l : Bytes) where
   pub shape_short : shape_fits T l ≡ true → length l ≤ 2 * file_limit

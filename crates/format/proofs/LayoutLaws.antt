@@ -10,7 +10,8 @@ use borrow.Author.Tests.{leb-true}
 use lib.ListN.{length, drop, replicate, length-append, length-replicate}
 use Rattle.lists.specs.Lists.{every}
 use Rattle.sector.specs.Layout.{items_room, page_limit, entry_limit}
-use Rattle.sector.specs.Contents.{Bytes, File, Table, idle_record, new_header}
+use Rattle.sector.specs.Contents.{Bytes, Table, idle_record, new_header}
+use Rattle.sector.specs.declared.layout.File.{File}
 use Rattle.sector.specs.Sectors.{store_at}
 use Rattle.sector.specs.Encoding.{encode_table, encode_record, encode_header}
 use Rattle.lists.proofs.ListLaws.{all_at}
@@ -41,16 +42,16 @@ records_turn n k b lo hi w rest =
 
 -- ------------------------------------------------------------------ the files
 -- File i's header is stored in sector h; its slots stay zeros.
-pub files_turn : (l : Bytes) (i h : ℕ) (b : Bytes) → i < length l / 2 → every file_fits (drop i (files_of l)) ≡ true
-    → (w : Bytes) → Puts (256 * (h + 1 + (pair_at l i).slots)) (new_files (drop (i + 1) (files_of l))) (store_at b h (encode_header (pair_at l i) (new_header (pair_at l i)))) w
+pub files_turn : (l : Bytes) (i h next : ℕ) (b : Bytes) → next ≡ h + 1 + (pair_at l i).slots → i < length l / 2 → every file_fits (drop i (files_of l)) ≡ true
+    → (w : Bytes) → Puts (256 * next) (new_files (drop (i + 1) (files_of l))) (store_at b h (encode_header (pair_at l i) (new_header (pair_at l i)))) w
     → Puts (256 * h) (new_files (drop i (files_of l))) b w
 unfolding new_files
-files_turn l i h b lt fits w rest =
+files_turn l i h next b at lt fits w rest =
     let x : File = pair_at l i in
     let full = new_header_length x (first_fits l i lt fits) in
-    let e : 256 * (h + 1 + x.slots) ≡ 256 * h + 256 + length (replicate {A = ℕ} (256 * x.slots) 0) = rw (length-replicate {A = ℕ} (256 * x.slots) 0) (omega arith) in
+    let e : 256 * next ≡ 256 * h + 256 + length (replicate {A = ℕ} (256 * x.slots) 0) = rw (length-replicate {A = ℕ} (256 * x.slots) 0) (omega arith) in
     rw (files_from_lem l i lt) (puts_more (256 * h) (256 * h + 256) _ _ b _ w (omega (arith, full)) (puts_store h _ b full)
-    (puts_more (256 * h + 256) (256 * (h + 1 + x.slots)) (replicate (256 * x.slots) 0) _ _ _ w e (puts_zeros (256 * h + 256) (256 * x.slots) _) rest))
+    (puts_more (256 * h + 256) (256 * next) (replicate (256 * x.slots) 0) _ _ _ w e (puts_zeros (256 * h + 256) (256 * x.slots) _) rest))
 
 -- There is room for its header, and it is in range.
 pub file_room : (l : Bytes) (i h n : ℕ) → i < length l / 2 → 256 * sector_after h (drop i (files_of l)) ≤ n → 256 * h + 256 ≤ n

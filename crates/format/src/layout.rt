@@ -1,9 +1,10 @@
 // The array of a new volume: zeros, into which the control sectors are stored rising by sector, each built in the
 // working sector.
-ghost use Rattle.std.specs.Prelude.{◌≡◌, true, ◌+◌, ◌*◌, ◌/◌, ◌≤◌, ◌<◌, length, replicate};
+ghost use Rattle.std.specs.Prelude.{◌≡◌, true, ◌+◌, ◌*◌, ◌/◌, ◌≤◌, ◌<◌, length};
 ghost use Rattle.lists.specs.Lists.{every};
 ghost use Rattle.sector.specs.Layout.{items_room, sector_limit, file_limit};
-ghost use Rattle.sector.specs.Contents.{File, idle_record, new_header};
+ghost use Rattle.sector.specs.Contents.{idle_record, new_header};
+ghost use Rattle.sector.specs.declared.layout.File.{File};
 ghost use Rattle.sector.specs.Sectors.{store_at};
 ghost use Rattle.sector.specs.Encoding.{encode_table, encode_record, encode_header};
 ghost use Rattle.volume.specs.Places.{sector_after};
@@ -13,18 +14,7 @@ ghost use Rattle.volume.specs.Format.{table_for, repeated, new_files, new_volume
 ghost use Rattle.format.specs.Requests.{Fits};
 ghost use Rattle.sector.specs.Puts.{Puts};
 
-use sector::{Sector, State, empty_record, new_header, new_table, store, wide, zeros};
-
-// Every byte becomes zero.
-fn clear(v: &mut [u8])
-    ensures { v.new ≡ replicate (length v.old) 0 }
-{
-    let mut i = 0;
-    while i < v.len() {
-        v[i] = 0;
-        i += 1;
-    }
-}
+use sector::{Sector, State, empty_record, new_header, new_table, store, zeros};
 
 // The table is stored in sector 0.
 fn put_table(v: &mut [u8], clients: u8, shape: &[u8])
@@ -52,10 +42,8 @@ fn put_records(v: &mut [u8], clients: usize)
     ensures puts { Puts 256 (repeated clients (encode_record idle_record)) v.old v.new }
     ensures v_len_unchanged { length v.new ≡ length v.old }
 {
-    let mut k = 1;
-    while k <= clients {
+    for k in 1..clients + 1 {
         put_record(v, k);
-        k += 1;
     }
 }
 
@@ -77,13 +65,10 @@ fn put_files(v: &mut [u8], first: usize, shape: &[u8])
         × (length shape.now ≤ 2 * file_limit) × (every file_fits (files_of shape.now) ≡ true) }
     ensures { Puts (256 * first) (new_files (files_of shape.now)) v.old v.new }
 {
-    let n = shape.len() / 2;
     let mut h = first;
-    let mut i = 0;
-    while i < n {
+    for i in 0..shape.len() / 2 {
         put_header(v, h, shape, i);
-        h = h + 1 + wide(shape[2 * i + 1]);
-        i += 1;
+        h += 1 + usize::from(shape[2 * i + 1]);
     }
 }
 
@@ -92,8 +77,9 @@ pub fn lay_out(v: &mut [u8], clients: u8, shape: &[u8])
     requires { Fits (length v.old) clients shape.now }
     ensures { v.new ≡ new_volume (table_for (length v.old) clients shape.now) }
 {
-    clear(v);
+    v.fill(0);
     put_table(v, clients, shape);
-    put_records(v, wide(clients));
-    put_files(v, wide(clients) + 1, shape);
+    let clients = usize::from(clients);
+    put_records(v, clients);
+    put_files(v, clients + 1, shape);
 }

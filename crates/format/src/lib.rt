@@ -10,25 +10,26 @@ ghost use Rattle.format.specs.Outcomes.{formatted};
 
 use crate::layout::lay_out;
 use crate::request::{end_sector, length_fits, shape_fits};
-use interface::{FormatOutcome, Refusal};
+use interface::Refusal;
 use sector::Sector;
 
 // Lays out a volume for `clients` clients and the files of `shape`, a list of pairs: the pages of a file, then its
 // slots. The array may have any length and content before. Ruled out: a byte of the array left as it was on success, be
 // it in the last sector (`must-fail/last_sector_kept`); the answer that the files need too many sectors where one of
 // them is also out of range.
-pub fn format(v: &mut [u8], clients: u8, shape: &[u8]) -> FormatOutcome
+#[tactic(auto, using(crate::proofs::FormatLaws::shape_short), unfolding(volume::specs::Format::format, volume::specs::Format::format_tests, lists::specs::Lists::first, volume::specs::Format::end_fits))]
+pub fn format(v: &mut [u8], clients: u8, shape: &[u8]) -> Result<(), Refusal>
     ensures { formatted result v.new ≡ Format.format v.old clients shape.now }
 {
     if !length_fits(v.len()) {
-        return FormatOutcome::Refused(Refusal::BadVolumeLength);
+        return Err(Refusal::BadVolumeLength);
     }
     if !shape_fits(clients, shape) {
-        return FormatOutcome::Refused(Refusal::BadShape);
+        return Err(Refusal::BadShape);
     }
     if v.len() / Sector::SIZE < end_sector(clients, shape) {
-        return FormatOutcome::Refused(Refusal::TooFewSectors);
+        return Err(Refusal::TooFewSectors);
     }
     lay_out(v, clients, shape);
-    FormatOutcome::Done
+    Ok(())
 }

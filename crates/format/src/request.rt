@@ -8,27 +8,26 @@ ghost use Rattle.volume.specs.Lawful.{file_fits};
 ghost use Rattle.volume.specs.Format.{length_fits, shape_fits};
 ghost use Rattle.sector.specs.Shapes.{files_of};
 
-use sector::{Limits, Sector, wide};
+use sector::{Limits, Sector};
 use volume::file_fits;
 
 // Whether n bytes are a whole number of sectors, and not too many.
+#[tactic(auto, unfolding(volume::specs::Format::length_fits))]
 pub fn length_fits(n: usize) -> bool
     ensures { result ≡ length_fits n }
 {
-    if n % Sector::SIZE != 0 {
-        return false;
-    }
-    n / Sector::SIZE <= Limits::SECTORS
+    (n % Sector::SIZE == 0) & (n / Sector::SIZE <= Limits::SECTORS)
 }
 
 // Whether the number of clients and the list of files are in range.
+#[tactic(auto, unfolding(volume::specs::Format::shape_fits, lists::specs::Lists::all))]
 pub fn shape_fits(clients: u8, shape: &[u8]) -> bool
     ensures { result ≡ shape_fits clients shape.now }
 {
     if clients < 1 {
         return false;
     }
-    if Limits::CLIENTS < wide(clients) {
+    if Limits::CLIENTS < usize::from(clients) {
         return false;
     }
     if shape.len() % 2 != 0 {
@@ -47,15 +46,8 @@ pub fn shape_fits(clients: u8, shape: &[u8]) -> bool
 fn files_fit(shape: &[u8]) -> bool
     ensures { result ≡ every file_fits (files_of shape.now) }
 {
-    let n = shape.len() / 2;
-    let mut i = 0;
-    while i < n {
-        if !file_fits(shape[2 * i], shape[2 * i + 1]) {
-            return false;
-        }
-        i += 1;
-    }
-    true
+    let (pairs, _) = shape.as_chunks::<2>();
+    pairs.iter().all(|pair| file_fits(pair[0], pair[1]))
 }
 
 // The sector after the last file.
@@ -63,12 +55,10 @@ pub fn end_sector(clients: u8, shape: &[u8]) -> usize
     requires { length shape.now ≤ 2 * file_limit }
     ensures { result ≡ sector_after (first_header clients) (files_of shape.now) }
 {
-    let n = shape.len() / 2;
-    let mut h = wide(clients) + 1;
-    let mut i = 0;
-    while i < n {
-        h = h + 1 + wide(shape[2 * i + 1]);
-        i += 1;
+    let (pairs, _) = shape.as_chunks::<2>();
+    let mut h = usize::from(clients) + 1;
+    for pair in pairs {
+        h += 1 + usize::from(pair[1]);
     }
     h
 }

@@ -2,7 +2,7 @@
 -- pages follows from the length of the sector. The set that the map left has the map's slots, so a slot that is not in the
 -- set is not in the map.
 use mathlib.Core.Path.{◌≡◌, refl, sym, ap, ◌∙◌, subst}
-use mathlib.Core.Bool.{Bool, true, false, not, ◌&&◌, ◌||◌, and_assoc, and-true, and-false, false≢true}
+use mathlib.Core.Bool.{Bool, true, false, not, ◌&&◌, ◌||◌, and_assoc, and-true, and-false}
 use mathlib.Core.Logic.{◌≢◌}
 use mathlib.Core.List.{List, [], ◌∷◌}
 use Prim.Native.Nat.{ℕ, ◌-◌, ◌≤◌, ◌<◌}
@@ -10,20 +10,25 @@ use native.Mathlib.Omega.{arith}
 use borrow.Author.Tests.{eq-eqb, ne_eqb, le-leb, lt-leb, lt-ltb, le-ltb}
 use lib.Dec.{eqb, leb, ltb}
 use lib.ListN.{length}
+use Rattle.std.specs.Prelude.{Some, None}
 use Rattle.lists.specs.Lists.{all, every, member}
 use Rattle.sector.specs.Contents.{Bytes, File, Table, Record, Header, is_idle}
 use Rattle.sector.specs.Entries.{for_file}
-use Rattle.sector.specs.Decoding.{clients_in, file_count_in, file_in, state_in, holder_in, decode_table, decode_record, decode_header}
+use Rattle.sector.specs.Decoding.{clients_in, file_count_in, header_sector_in, file_in, state_in, holder_in, decode_table, decode_record, decode_header}
+use Rattle.sector.specs.Sectors.{sector}
 use Rattle.sector.proofs.CodecLaws.{decoded_map}
+use Rattle.sector.proofs.SectorLaws.{sector_length}
 use Rattle.lists.proofs.TestLaws.{all_no}
 use Rattle.volume.specs.Places.{record_place, header_place}
 use Rattle.volume.specs.Lawful.{holder_fits, header_fits}
 use Rattle.volume.specs.Volumes.{Volume, bytes_at, record_in}
 use Rattle.volume.proofs.PlaceLaws.{is_client_lem}
+use Rattle.byteset.specs.declared.BitSet.{BitSet}
 use Rattle.byteset.specs.Set.{no_bytes, has_byte, with_byte, Holds}
-use Rattle.byteset.proofs.SetLaws.{has_none}
+use Rattle.byteset.proofs.SetLaws.{has_none, length_with}
 use Rattle.sector.specs.Encoded.{is_header_encoding}
 use Rattle.header_test.specs.Header.{map_fits, Scanned, slots_apart, holder_test, header_sound}
+use Rattle.header_test.specs.Tested.{Tested}
 use Rattle.table_test.proofs.DecodingLaws.{file_is}
 use Rattle.table_test.proofs.TableLaws.{clients_are}
 use Rattle.record_test.proofs.RecordLaws.{state_in_lem}
@@ -36,35 +41,31 @@ pub record MapLeft (R : ℕ) (m left s : List ℕ) : Type 0 where
   pub walk : Walk m s left
   pub words : length s ≡ 4
 
-pub map_all : (R : ℕ) (m s : List ℕ) → s ≡ no_bytes → MapLeft R m m s
-map_all R m s e = record { low = refl; walk = walk_none m s (λ y. rw e (has_none y)); words = rw e }
+pub map_all : (R : ℕ) (m : List ℕ) → MapLeft R m m no_bytes
+map_all R m = record { low = refl; walk = walk_none m no_bytes has_none; words = refl }
 
 module _ {R : ℕ} {m left s : List ℕ} (l : MapLeft R m left s) (r : ℕ) (rest : List ℕ) (next : left ≡ r ∷ rest) where
   here : MapLeft R m (r ∷ rest) s
   here = subst (λ (xs : List ℕ). MapLeft R m xs s) next l
 
-  pub slot_high : R ≤ r → Scanned R m false s
+  pub slot_high : R ≤ r → Scanned R m None
   unfolding map_fits
-  slot_high h = record { tells = sym (rw (here.low, le-ltb r R h)); holds = λ q. absurd (false≢true q); words = l.words }
+  slot_high h = record { tells = sym (rw (here.low, le-ltb r R h)); holds = tt }
 
-  pub slot_twice : (s' : List ℕ) → length s' ≡ 4 → not (has_byte s r) ≡ false → Scanned R m false s'
+  pub slot_twice : not (has_byte s r) ≡ false → Scanned R m None
   unfolding map_fits
-  slot_twice s' words e = record {
-    tells = sym (rw (walk_seen _ _ here.walk e) (and-false (every (λ r. ltb r R) m)));
-    holds = λ q. absurd (false≢true q);
-    words = words;
-  }
+  slot_twice e = record { tells = sym (rw (walk_seen _ _ here.walk e) (and-false (every (λ r. ltb r R) m))); holds = tt }
 
-  pub map_more : r < R → not (has_byte s r) ≡ true → r < 256 → (s' : List ℕ) → length s' ≡ 4 → s' ≡ with_byte s r → MapLeft R m rest s'
-  map_more h e byte s' words q = record {
+  pub map_more : r < R → not (has_byte s r) ≡ true → r < 256 → MapLeft R m rest (with_byte s r)
+  map_more h e byte = record {
     low = here.low ∙ rw (lt-ltb r R h);
-    walk = rw q (walk_more _ _ here.walk e (omega (arith, l.words)));
-    words = words;
+    walk = walk_more _ _ here.walk e (omega (arith, l.words));
+    words = length_with s r ∙ l.words;
   }
 
-pub map_done : {R : ℕ} {m s : List ℕ} → MapLeft R m [] s → Scanned R m true s
+pub map_done : {R : ℕ} {m : List ℕ} (s : BitSet 4) → MapLeft R m [] s.words → Scanned R m (Some s)
 unfolding map_fits
-map_done l = record { tells = sym (rw l.low (walk_done l.walk).0); holds = λ q. (walk_done l.walk).1; words = l.words }
+map_done s l = record { tells = sym (rw l.low (walk_done l.walk).0); holds = (walk_done l.walk).1 }
 
 -- ------------------------------------------------------------------ the holder
 -- As `holder_fits` tests it, of n clients.
@@ -94,14 +95,14 @@ holder_is t v k f s m hs =
     ap (λ (has : ℕ → Bool). eqb k 0 || all (leb k t.clients ∷ not (is_idle r) ∷ every (λ e. not (for_file f e && has e.slot)) r.entries ∷ [])) has_is
 
 -- ------------------------------------------------------------------ the whole header, as `header_is_sound` tests it
--- d is the sector of file f's header.
-module _ (v : Volume) (tb : Bytes) (f : ℕ) (lo : 1 ≤ f) (hi : f ≤ file_count_in tb) (d : Bytes)
-    (at : d ≡ bytes_at (decode_table tb) v (header_place f)) where
+-- d is the sector s of file f's header.
+module _ {v : Volume} {tb : Bytes} (tested : Tested v tb) (f : ℕ) (lo : 1 ≤ f) (hi : f ≤ file_count_in tb) {i s : ℕ} (same : i ≡ f)
+    (place : s ≡ header_sector_in tb (i - 1)) {d : Bytes} (read : d ≡ sector v s) where
   abbrev t : Table
   t = decode_table tb
 
   abbrev x : File
-  x = file_in tb (f - 1)
+  x = file_in tb (i - 1)
 
   abbrev h : Header
   h = decode_header x d
@@ -109,19 +110,24 @@ module _ (v : Volume) (tb : Bytes) (f : ℕ) (lo : 1 ≤ f) (hi : f ≤ file_cou
   abbrev recs : ℕ → Record
   recs = record_in t (bytes_at t v)
 
+  at : d ≡ bytes_at t v (header_place f)
+  at = read ∙ ap (sector v) (place ∙ rw same (tested.header_is f lo hi))
+
   sound_is : header_sound t v f ≡ (is_header_encoding x d && header_fits recs t f h)
   unfolding header_sound
-  sound_is = rw (← at, file_is tb f lo hi)
+  sound_is = rw (← at, file_is tb f lo hi, same)
 
   pub no_header_lem : is_header_encoding x d ≡ false → header_sound t v f ≡ false
   no_header_lem e = sound_is ∙ rw e
 
-  module _ (ok : is_header_encoding x d ≡ true) (len : length d ≡ 256) (few : x.pages ≤ 120) where
+  module _ (ok : is_header_encoding x d ≡ true) where
     parts : header_sound t v f ≡ (map_fits x.slots h.map && (eqb h.holder 0 || holder_fits recs t f h))
     unfolding map_fits all
     parts =
+        let len : length d ≡ 256 = rw read (sector_length v s (rw (place, same) (tested.headers f lo hi))) in
+        let few : x.pages ≤ 120 = rw same (tested.pages f lo hi) in
         let count : eqb (length h.map) x.pages ≡ true = eq-eqb _ _ (decoded_map x d len (omega arith)) in
-        sound_is ∙ rw (ok, file_is tb f lo hi, count) (simp (and_assoc, and-true))
+        sound_is ∙ rw (ok, file_is tb f lo hi, ← same, count) (simp (and_assoc, and-true))
 
     pub map_no : map_fits x.slots h.map ≡ false → header_sound t v f ≡ false
     map_no e = parts ∙ rw e

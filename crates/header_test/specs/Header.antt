@@ -1,28 +1,25 @@
 -- A file header: what `sound` asks of it, and the parts of that as a program tests them.
-use Rattle.std.specs.Prelude.{◌≡◌, Bool, true, not, ◌&&◌, ◌||◌, List, [], ◌∷◌, ℕ, eqb, leb, ltb, length}
+use Rattle.std.specs.Prelude.{◌≡◌, Bool, not, ◌&&◌, ◌||◌, List, [], ◌∷◌, ℕ, eqb, leb, ltb, Option, IfSome}
+use Rattle.std.specs.Option.{is_some}
 use Rattle.lists.specs.Lists.{all, every, distinct}
-use Rattle.sector.specs.Contents.{File, Table, Entry, is_idle}
+use Rattle.sector.specs.Contents.{Table, Entry, is_idle}
 use Rattle.sector.specs.Entries.{for_file}
 use Rattle.sector.specs.Decoding.{decode_header}
 use Rattle.volume.specs.Places.{file_at, header_place}
 use Rattle.volume.specs.Lawful.{header_fits}
 use Rattle.volume.specs.Volumes.{Volume, bytes_at, record_in}
+use Rattle.byteset.specs.declared.BitSet.{BitSet}
 use Rattle.byteset.specs.Set.{has_byte, Holds}
 use Rattle.sector.specs.Encoded.{is_header_encoding}
-
--- A file of P pages and R slots.
-abbrev pub file_with : ℕ → ℕ → File
-file_with P R = record { pages = P; slots = R }
 
 -- The slots of the map are below R and distinct.
 unfoldable pub map_fits : ℕ → List ℕ → Bool
 map_fits R m = every (λ r. ltb r R) m && distinct eqb m
 
--- What that test leaves: its answer, and where that is `true`, the slots of the map m in the set s.
-pub record Scanned (R : ℕ) (m : List ℕ) (answer : Bool) (s : List ℕ) : Type 0 where
-  pub tells : answer ≡ map_fits R m
-  pub holds : answer ≡ true → Holds s m
-  pub words : length s ≡ 4
+-- What that test gives: where it holds, the slots of the map m in a set.
+pub record Scanned (R : ℕ) (m : List ℕ) (seen : Option (BitSet 4)) : Type 0 where
+  pub tells : is_some seen ≡ map_fits R m
+  pub holds : IfSome seen (λ s. Holds s.words m)
 
 -- The entry is for another file than f, or gives a slot that is not in the set s.
 abbrev pub slot_apart : ℕ → List ℕ → Entry → Bool

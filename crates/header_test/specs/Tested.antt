@@ -8,7 +8,6 @@ use Rattle.volume.specs.Volumes.{Volume, bytes_at}
 
 -- What holds of a volume v and its sector 0, tb, once all but the headers has been tested.
 pub record Tested (v : Volume) (tb : Bytes) : Type 0 where
-  pub whole : length tb ≡ 256
   pub clients : clients_in tb ≤ client_limit
   pub files : file_count_in tb ≤ file_limit
   -- Each record and each header is one of them.

@@ -6,9 +6,7 @@ use Prim.Native.Nat.{ℕ}
 use Rattle.interface.specs.declared.Session.{Session}
 use Rattle.interface.specs.declared.Refusal.TheVariants.{NotSound, BadSession, NoClient, AlreadyActive, NotActive, NoFile, FileInUse, NotHeld, NoPage, BadPageLength, NoFreeSlot, RecordFull, BadVolumeLength, BadShape, TooFewSectors, ReadOnly}
 use Rattle.interface.specs.declared.Outcome.{Outcome}
-use Rattle.interface.specs.declared.QueryOutcome.{QueryOutcome}
-use Rattle.interface.specs.declared.CountOutcome.{CountOutcome}
-use Rattle.interface.specs.declared.FormatOutcome.{FormatOutcome}
+use Rattle.std.specs.Prelude.{Ok, Err}
 use Rattle.interface.specs.Answers.{none_reading, new_session, session_of, marks_byte, done, crashed, refused, found, query_refused, counted, count_refused, format_done, format_refused, refusal_number, answer_of, query_answer_of, count_answer_of, format_answer_of}
 
 -- ------------------------------------------------------------------ sessions: new_session, session_of, marks_byte, mark_worth
@@ -58,19 +56,19 @@ refusal_numbers : map refusal_number
 refusal_numbers = refl
 
 -- "answers cut with the number of stores made .. Otherwise it answers done with that number"; a refusal by its number.
-answers : map answer_of (Outcome.Done 4 ∷ Outcome.Crashed 3 ∷ Outcome.Refused NoFreeSlot ∷ []) ≡ done 4 ∷ crashed 3 ∷ refused 11 ∷ []
+answers : map answer_of (Ok (Outcome.Done 4) ∷ Ok (Outcome.Crashed 3) ∷ Err NoFreeSlot ∷ []) ≡ done 4 ∷ crashed 3 ∷ refused 11 ∷ []
 answers = refl
 
 -- Read "answers the sector number".
-read_answers : map query_answer_of (QueryOutcome.Sector 6 ∷ QueryOutcome.Refused NotHeld ∷ []) ≡ found 6 ∷ query_refused 8 ∷ []
+read_answers : map query_answer_of (Ok 6 ∷ Err NotHeld ∷ []) ≡ found 6 ∷ query_refused 8 ∷ []
 read_answers = refl
 
 -- M-104: a count, or a refusal.
-count_answers : map count_answer_of (CountOutcome.Count 239 ∷ CountOutcome.Refused NotSound ∷ CountOutcome.Refused NoFile ∷ [])
+count_answers : map count_answer_of (Ok 239 ∷ Err NotSound ∷ Err NoFile ∷ [])
     ≡ counted 239 ∷ count_refused 1 ∷ count_refused 6 ∷ []
 count_answers = refl
 
 -- Layout "answers done without a count".
-format_answers : map format_answer_of (FormatOutcome.Done ∷ FormatOutcome.Refused TooFewSectors ∷ [])
+format_answers : map format_answer_of (Ok tt ∷ Err TooFewSectors ∷ [])
     ≡ format_done ∷ format_refused 15 ∷ []
 format_answers = refl

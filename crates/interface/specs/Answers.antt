@@ -1,12 +1,9 @@
 -- The answers of document 01, and which of them each value of the interface is.
-use Rattle.std.specs.Prelude.{Bool, true, false, List, [], ◌∷◌, ℕ, ◌+◌, ◌/◌, ◌%◌, eqb, get_or}
+use Rattle.std.specs.Prelude.{Bool, true, false, List, [], ◌∷◌, ℕ, ◌+◌, ◌/◌, ◌%◌, eqb, get_or, Result, Ok, Err, ⊤}
 use Rattle.interface.specs.declared.Session.{Session}
 use Rattle.interface.specs.declared.Refusal.{Refusal}
 use Rattle.interface.specs.declared.Refusal.TheVariants.{NotSound, BadSession, NoClient, AlreadyActive, NotActive, NoFile, FileInUse, NotHeld, NoPage, BadPageLength, NoFreeSlot, RecordFull, BadVolumeLength, BadShape, TooFewSectors, ReadOnly}
 use Rattle.interface.specs.declared.Outcome.{Outcome}
-use Rattle.interface.specs.declared.QueryOutcome.{QueryOutcome}
-use Rattle.interface.specs.declared.CountOutcome.{CountOutcome}
-use Rattle.interface.specs.declared.FormatOutcome.{FormatOutcome}
 
 -- No client holds a file for reading.
 abbrev pub none_reading : List ℕ
@@ -70,23 +67,23 @@ refusal_number BadShape = 14
 refusal_number TooFewSectors = 15
 refusal_number ReadOnly = 16
 
--- Each case of an outcome, as the paper has it.
-abbrev pub answer_of : Outcome → Answer
-answer_of (Outcome.Done n) = done n
-answer_of (Outcome.Crashed n) = crashed n
-answer_of (Outcome.Refused r) = refused (refusal_number r)
+-- Each case of a call's result, as the paper has it.
+abbrev pub answer_of : Result Outcome Refusal → Answer
+answer_of (Ok (Outcome.Done n)) = done n
+answer_of (Ok (Outcome.Crashed n)) = crashed n
+answer_of (Err r) = refused (refusal_number r)
 
--- Each case of a question's outcome.
-abbrev pub query_answer_of : QueryOutcome → QueryAnswer
-query_answer_of (QueryOutcome.Sector n) = found n
-query_answer_of (QueryOutcome.Refused r) = query_refused (refusal_number r)
+-- Each case of a question's result: the sector, or a refusal.
+abbrev pub query_answer_of : Result ℕ Refusal → QueryAnswer
+query_answer_of (Ok n) = found n
+query_answer_of (Err r) = query_refused (refusal_number r)
 
--- Each case of a count's outcome.
-abbrev pub count_answer_of : CountOutcome → CountAnswer
-count_answer_of (CountOutcome.Count n) = counted n
-count_answer_of (CountOutcome.Refused r) = count_refused (refusal_number r)
+-- Each case of a count's result.
+abbrev pub count_answer_of : Result ℕ Refusal → CountAnswer
+count_answer_of (Ok n) = counted n
+count_answer_of (Err r) = count_refused (refusal_number r)
 
--- Each case of a format's outcome.
-abbrev pub format_answer_of : FormatOutcome → FormatAnswer
-format_answer_of FormatOutcome.Done = format_done
-format_answer_of (FormatOutcome.Refused r) = format_refused (refusal_number r)
+-- Each case of a format's result.
+abbrev pub format_answer_of : Result ⊤ Refusal → FormatAnswer
+format_answer_of (Ok _) = format_done
+format_answer_of (Err r) = format_refused (refusal_number r)

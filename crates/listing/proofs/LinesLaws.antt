@@ -2,7 +2,7 @@
 -- starts, a turn and its end, by the first of the lines that are left.
 use mathlib.Core.Path.{◌≡◌, refl, ◌∙◌}
 use mathlib.Core.List.{[], ◌∷◌, ◌++◌}
-use Prim.Native.Nat.{ℕ, suc, ◌+◌, ◌-◌, ◌≤◌, ◌<◌}
+use Prim.Native.Nat.{ℕ, suc, ◌+◌, ◌-◌, ◌≤◌}
 use native.Mathlib.Numerals.{add-one}
 use native.Mathlib.Omega.{arith}
 use lib.ListN.{length, length-append}
@@ -11,7 +11,7 @@ use Rattle.lists.specs.Lists.{from}
 use Rattle.sector.specs.Contents.{Bytes}
 use Rattle.volume.specs.Listing.{decimal, state_word, client_text, sectors_text, pages_text, client_line, file_line, lines}
 use Rattle.text.specs.Writes.{Wrote}
-use Rattle.text.proofs.WritesLaws.{wrote_more, wrote_none}
+use Rattle.text.proofs.WritesLaws.{wrote_more}
 
 -- ------------------------------------------------------------------ one line
 pub client_length : (k state count : ℕ)
@@ -41,8 +41,6 @@ file_length f holder pages slots =
 -- They are being written to b, from `start` on, and k is next: b has become c, those from k on have room at `at`, and whoever
 -- writes them has written all.
 pub record Writing (line : ℕ → Bytes) (n : ℕ) (b : Bytes) (start k : ℕ) (c : Bytes) (at : ℕ) : Type 0 where
-  pub low : 1 ≤ k
-  pub high : k ≤ n + 1
   pub size : length c ≡ length b
   pub room : at + length (lines line (from k (n + 1 - k))) ≤ length b
   pub rest : (w : Bytes) (m : ℕ) → Wrote c at (lines line (from k (n + 1 - k))) w m → Wrote b start (lines line (from 1 n)) w m
@@ -56,7 +54,7 @@ pub writing_starts : (line : ℕ → Bytes) (n : ℕ) (b : Bytes) (start : ℕ) 
     → Writing line n b start 1 b start
 writing_starts line n b start room =
     let e : n + 1 - 1 ≡ n = omega arith in
-    record { low = omega arith; high = omega arith; size = refl; room = rw e room; rest = λ w m x. rw e at x }
+    record { size = refl; room = rw e room; rest = λ w m x. rw e at x }
 
 module _ {line : ℕ → Bytes} {n : ℕ} {b c : Bytes} {start k at : ℕ} (now : Writing line n b start k c at) where
   next_room : k ≤ n → at + (length (line k) + length (lines line (from (k + 1) (n + 1 - (k + 1))))) ≤ length b
@@ -67,14 +65,7 @@ module _ {line : ℕ → Bytes} {n : ℕ} {b c : Bytes} {start k at : ℕ} (now 
 
   pub writing_turn : {d : Bytes} {next : ℕ} → k ≤ n → Wrote c at (line k) d next → Writing line n b start (k + 1) d next
   writing_turn h one = record {
-    low = omega arith;
-    high = omega arith;
     size = rw one.bytes (length-sets c at (line k)) ∙ now.size;
     room = omega (arith, one.next, next_room h);
     rest = λ w m x. now.rest w m (rw (lines_from line n k h) (wrote_more one x));
   }
-
-  pub writing_ends : n < k → Wrote b start (lines line (from 1 n)) c at
-  writing_ends h =
-      let m : n + 1 - k ≡ 0 = omega arith in
-      now.rest c at (rw m (wrote_none c at))

@@ -16,7 +16,7 @@ use Rattle.volume.specs.Sound.{sound}
 use Rattle.volume.specs.Listing.{state_word, lines, listing, client_line_of, client_lines, file_line_of, file_lines}
 use Rattle.volume.proofs.LawfulLaws.{Lawful, record_facts, lawful_facts, holder_four}
 use Rattle.volume.proofs.SoundLaws.{sound_lawful}
-use Rattle.listing.specs.declared.ListOutcome.{ListOutcome}
+use Rattle.std.specs.Prelude.{Ok}
 use Rattle.text.specs.Writes.{Wrote}
 use Rattle.listing.specs.Listed.{Listed, listed}
 use Rattle.text.proofs.WritesLaws.{one_digit, below_100, any_number, wrote_more, wrote_front}
@@ -80,7 +80,7 @@ wrote_listing v b c d n r x y = wrote_more x y
 
 -- So it is what the definition says.
 pub listed_text : (v : Volume) (b d : Bytes) (r : ℕ) → 664 ≤ length b → sound v ≡ true → Wrote b 0 (listing (view v)) d r
-    → ◌≡◌ {A = Listed} (record { outcome = ListOutcome.Listed r; out = d }) (listed v b)
+    → ◌≡◌ {A = Listed} (record { outcome = Ok r; out = d }) (listed v b)
 unfolding listed
 listed_text v b d r room ok w =
     let t = wrote_front w (omega (arith, listing_fits v ok)) in

@@ -7,11 +7,11 @@ use mathlib.Core.Path.{◌≡◌, refl, sym, ap₂, ◌∙◌, subst}
 use mathlib.Core.Bool.{Bool, true, false, not, ◌&&◌, ◌||◌, and_assoc, and-true, and-false}
 use mathlib.Core.List.{List, [], ◌∷◌, map}
 use mathlib.Core.Logic.{◌≢◌}
-use Prim.Native.Nat.{ℕ, zero, suc, ◌+◌, ◌-◌, ◌/◌, ◌<◌, ◌≤◌}
+use Prim.Native.Nat.{ℕ, zero, suc, ◌+◌, ◌-◌, ◌<◌, ◌≤◌}
 use native.Mathlib.Omega.{arith}
 use borrow.Author.Tests.{eqb-true, eqb-false, eq-eqb, ne_eqb, leb-true, le-leb, lt-leb, ltb-true}
 use lib.Dec.{eqb, leb, ltb}
-use lib.ListN.{length, replicate, length-set}
+use lib.ListN.{length, replicate}
 use Rattle.lists.specs.Lists.{all, every, any, distinct}
 use Rattle.sector.specs.Contents.{Bytes, Table, Entry}
 use Rattle.sector.specs.Decoding.{file_count_in, header_sector_in, file_in, state_in, count_in, decode_table, decode_record}
@@ -24,7 +24,7 @@ use Rattle.volume.specs.Lawful.{entry_fits, pages_differ, slots_differ}
 use Rattle.volume.proofs.PlaceLaws.{IsFile, file_ends, files_apart}
 use Rattle.volume.proofs.LawfulLaws.{file_facts}
 use Rattle.byteset.specs.Set.{has_byte, with_byte}
-use Rattle.byteset.proofs.SetLaws.{has_zeros}
+use Rattle.byteset.proofs.SetLaws.{has_zeros, length_with}
 use Rattle.sector.specs.Encoded.{is_record_encoding}
 use Rattle.table_test.specs.Table.{table_sound}
 use Rattle.record_test.specs.Record.{state_fits, entries_fit, sector_for, page_sector, slot_sector, InRange, record_sound}
@@ -110,10 +110,6 @@ left_all tb es = record {
   page_words = refl;
   slot_words = refl;
 }
-
-length_with : (s : List ℕ) (x : ℕ) → length (with_byte s x) ≡ length s
-unfolding with_byte
-length_with s x = length-set s (x / 64) _
 
 module _ (tb : Bytes) (ok : table_sound tb ≡ true) where
   abbrev t : Table

@@ -30,9 +30,6 @@ module _ (v : Volume) (formed : WellFormed v) where
     pub record_read : (d : Bytes) → d ≡ bytes_at (view v).table v (record_place k) → decode_record d ≡ (view v).records k
     record_read d e = ap decode_record e ∙ sym (record_is v k client.low client.high)
 
-    pub count_few : (d : Bytes) → d ≡ bytes_at (view v).table v (record_place k) → count_in d ≤ 62
-    count_few d e = rw (e, count_in_lem v formed k client) (few_entries v formed k client)
-
     -- What holds of each entry that fits.
     page_fits : (e : Entry) → entry_fits (view v).table e ≡ true
         → (e.page < (file_at (view v).table e.file).pages) × ((file_at (view v).table e.file).pages ≤ 120)
@@ -41,10 +38,15 @@ module _ (v : Volume) (formed : WellFormed v) where
       few_pages v formed.tabled e.file (record { low = leb-true _ _ (all_at _ 0 fits); high = leb-true _ _ (all_at _ 1 fits) }),
     )
 
-    pub pages_low : pages_below 248 ((view v).records k).entries ≡ true
+    pages_low : pages_below 248 ((view v).records k).entries ≡ true
     pages_low = every_implies (entry_fits (view v).table) (λ (e : Entry). ltb e.page 248)
         (λ e fits. lt-ltb e.page 248 (omega (arith, page_fits e fits))) ((view v).records k).entries
         (all_at _ 2 (formed.record_fits k client.low client.high))
+
+    -- So a header's map may be redone by it.
+    pub redo_allowed : (d : Bytes) → d ≡ bytes_at (view v).table v (record_place k)
+        → (count_in d ≤ 62) × (pages_below 248 (decode_record d).entries ≡ true)
+    redo_allowed d e = (rw (e, count_in_lem v formed k client) (few_entries v formed k client), rw (record_read d e) pages_low)
 
     pub pages_inside : (f : ℕ) → IsFile (view v).table f → file_pages_below f (length ((view v).headers f).map) ((view v).records k).entries ≡ true
     pages_inside f i = every_implies (entry_fits (view v).table) (λ (e : Entry). not (for_file f e) || ltb e.page (length ((view v).headers f).map))

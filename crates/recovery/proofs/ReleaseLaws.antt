@@ -9,6 +9,9 @@ use Prim.Native.Nat.{ℕ, suc, ◌+◌, ◌-◌, ◌≤◌, ◌<◌}
 use native.Mathlib.Omega.{arith}
 use borrow.Author.Tests.{eq-eqb, ne_eqb}
 use lib.ListN.{length}
+use Rattle.std.specs.Prelude.{Result, Ok, Err, OnOk}
+use Rattle.std.specs.Result.{IsErrAnd}
+use Rattle.std.proofs.lemmas.Result.{on_ok_weaker}
 use Rattle.lists.specs.Lists.{when◌then◌else◌, filter, member, from}
 use Rattle.sector.specs.Contents.{Record, Header, idle_record}
 use Rattle.sector.proofs.EditLaws.{redone_length}
@@ -25,8 +28,9 @@ use Rattle.rules.specs.Sessions.{holds}
 use Rattle.rules.specs.Recovery.{map_after, held_files, recovery}
 use Rattle.rules.proofs.RecoveryLaws.{held_member}
 use Rattle.stores.specs.declared.Run.{Run}
+use Rattle.stores.specs.declared.Crashed.{Crashed}
 use Rattle.stores.specs.Runs.{UpdatesMade, AllMade}
-use Rattle.stores.proofs.MadeLaws.{all_table, all_none, all_one, made_going, made_same, made_more}
+use Rattle.stores.proofs.MadeLaws.{all_table, all_none, all_one, made_none, made_more, made_cut}
 use Rattle.recovery.specs.Work.{freed, release_of}
 
 -- ------------------------------------------------------------------ one file
@@ -76,31 +80,28 @@ after_length false a k f = refl
 
 -- A file that was freed, or that k doesn't hold.
 release_all : {v w : Volume} {r q : Run} (redo : Bool) (k f : ℕ) → WellFormed v → IsFile (view v).table f
-    → UpdatesMade v r (release_of redo (view v) k f) w q → q.crashed ≡ false → AllMade v (release_of redo (view v) k f) w
+    → UpdatesMade v (Ok r) (release_of redo (view v) k f) w (Ok q) → AllMade v (release_of redo (view v) k f) w
 unfolding release_of
-release_all {v} {w} {r} {q} redo k f formed i m c = if_test (λ (xs : List Update). UpdatesMade v r xs w q → AllMade v xs w) (holds (view v) k f) _ []
-    (λ e m. all_one _ formed (i, after_length redo (view v) k f ∙ formed.map_size f i.low i.high, omega (arith, few_pages v formed.tabled f i)) m c)
+release_all {v} {w} {r} {q} redo k f formed i m = if_test (λ (xs : List Update). UpdatesMade v (Ok r) xs w (Ok q) → AllMade v xs w) (holds (view v) k f) _ []
+    (λ e m. all_one _ formed (i, after_length redo (view v) k f ∙ formed.map_size f i.low i.high, omega (arith, few_pages v formed.tabled f i)) m)
     (λ e m. all_none formed m) m
 
 -- ------------------------------------------------------------------ the loop
--- What the run finds at file f if it hasn't crashed.
-record Ahead (a : View) (redo : Bool) (k f : ℕ) (fs : List ℕ) (v : Volume) : Type 0 where
-  formed : WellFormed v
-  table : (view v).table ≡ a.table
-  own : (view v).records k ≡ a.records k
-  headers : (g : ℕ) → f ≤ g → (view v).headers g ≡ a.headers g
-  seen : changed_by (view v) (rest redo a k fs) ≡ changed_by a (recovery redo a k)
-
 -- The files from f on.
 abbrev files_from : View → ℕ → List ℕ
 files_from a f = from f (length a.table.files + 1 - f)
 
--- File f is next: what is left of recovery is its updates from there on.
+-- File f is next, for a run that goes on: what is left of recovery is its updates from there on.
 pub record Turn (v₀ : Volume) (r₀ : Run) (redo : Bool) (k : ℕ) (v : Volume) (r : Run) (f : ℕ) : Type 0 where
   pub low : 1 ≤ f
   pub high : f ≤ length (view v₀).table.files + 1
-  left : {u : Volume} {q : Run} → UpdatesMade v r (rest redo (view v₀) k (files_from (view v₀) f)) u q → UpdatesMade v₀ r₀ (recovery redo (view v₀) k) u q
-  ahead : r.crashed ≡ false → Ahead (view v₀) redo k f (files_from (view v₀) f) v
+  formed : WellFormed v
+  table : (view v).table ≡ (view v₀).table
+  own : (view v).records k ≡ (view v₀).records k
+  headers : (g : ℕ) → f ≤ g → (view v).headers g ≡ (view v₀).headers g
+  seen : changed_by (view v) (rest redo (view v₀) k (files_from (view v₀) f)) ≡ changed_by (view v₀) (recovery redo (view v₀) k)
+  left : {u : Volume} {q : Result Run Crashed} → UpdatesMade v (Ok r) (rest redo (view v₀) k (files_from (view v₀) f)) u q
+      → UpdatesMade v₀ (Ok r₀) (recovery redo (view v₀) k) u q
 
 pub turn_start : {v : Volume} {r : Run} {redo : Bool} {k : ℕ} → WellFormed v → Turn v r redo k v r 1
 turn_start {v} {r} {redo} {k} formed =
@@ -108,64 +109,70 @@ turn_start {v} {r} {redo} {k} formed =
     record {
       low = omega arith;
       high = omega arith;
+      formed = formed;
+      table = refl;
+      own = refl;
+      headers = λ g h. refl;
+      seen = rw (rest_all redo (view v) k, e);
       left = λ m. rw (rest_all redo (view v) k) (rw e at m);
-      ahead = λ c. record { formed = formed; table = refl; own = refl; headers = λ g h. refl; seen = rw (rest_all redo (view v) k, e) };
     }
 
 module _ {v₀ : Volume} {r₀ : Run} {redo : Bool} {k : ℕ} {v : Volume} {r : Run} {f : ℕ} (client : IsClient (view v₀).table k)
     (t : Turn v₀ r₀ redo k v r f) where
-  pub turn_formed : r.crashed ≡ false → WellFormed v × IsClient (view v).table k
-  turn_formed c = ((t.ahead c).formed, rw (t.ahead c).table client)
+  pub turn_formed : WellFormed v × IsClient (view v).table k
+  turn_formed = (t.formed, rw t.table client)
 
-  pub turn_file : f ≤ length (view v₀).table.files → r.crashed ≡ false → IsFile (view v).table f
-  turn_file h c = rw (t.ahead c).table (record { low = t.low; high = h })
+  pub turn_file : f ≤ length (view v₀).table.files → IsFile (view v).table f
+  turn_file h = rw t.table (record { low = t.low; high = h })
 
   -- One file.
-  module _ (h : f ≤ length (view v₀).table.files) {w : Volume} {q : Run} (m : UpdatesMade v r (release_of redo (view v) k f) w q) where
-    same : r.crashed ≡ false → release_of redo (view v) k f ≡ release_of redo (view v₀) k f
-    same c = release_same redo (view v₀) k (view v) f (t.ahead c).own ((t.ahead c).headers f (omega arith))
-
-    made : q.crashed ≡ false → AllMade v (release_of redo (view v) k f) w
-    made c = release_all redo k f (turn_formed (made_going m c)).0 (turn_file h (made_going m c)) m c
+  module _ (h : f ≤ length (view v₀).table.files) where
+    same : release_of redo (view v) k f ≡ release_of redo (view v₀) k f
+    same = release_same redo (view v₀) k (view v) f t.own (t.headers f (omega arith))
 
     abbrev later : List Update
     later = rest redo (view v₀) k (files_from (view v₀) (f + 1))
 
-    split : rest redo (view v₀) k (files_from (view v₀) f) ≡ release_of redo (view v₀) k f ++ later
+    split : rest redo (view v₀) k (files_from (view v₀) f) ≡ release_of redo (view v) k f ++ later
     split =
         let n = length (view v₀).table.files in
         let e : n + 1 - f ≡ suc (n + 1 - (f + 1)) = omega arith in
         let s : suc f ≡ f + 1 = omega arith in
-        ap (λ (i : ℕ). rest redo (view v₀) k (from f i)) e ∙ rest_more redo (view v₀) k f (from (suc f) (n + 1 - (f + 1))) ∙ rw s
+        rw same (ap (λ (i : ℕ). rest redo (view v₀) k (from f i)) e ∙ rest_more redo (view v₀) k f (from (suc f) (n + 1 - (f + 1))) ∙ rw s)
 
-    pub turn_more : Turn v₀ r₀ redo k w q (f + 1)
-    turn_more = record {
-      low = omega arith;
-      high = omega arith;
-      left = λ n. t.left (rw split (made_more (λ c. all_table _ (made c)) (made_same same m) n));
-      ahead = λ c.
-          let x = t.ahead (made_going m c) in
-          let d = made c in
-          record {
-            formed = d.formed;
-            table = all_table _ d ∙ x.table;
-            own = ap (λ (b : View). b.records k) d.seen ∙ ap (λ (rs : ℕ → Record). rs k) (release_records redo (view v) k f (view v)) ∙ x.own;
-            headers = λ g l. ap (λ (b : View). b.headers g) d.seen ∙ release_other redo (view v) k f g (view v) (omega arith) ∙ x.headers g (omega arith);
-            seen = ap (λ (b : View). changed_by b later) (d.seen ∙ ap (changed_by (view v)) (same (made_going m c)))
-                ∙ sym (changed_append (release_of redo (view v₀) k f) later (view v)) ∙ ap (changed_by (view v)) (sym split) ∙ x.seen;
-          };
-    }
+    -- The supply fails at its header.
+    pub turn_cut : {w : Volume} {q : Result Run Crashed} {c : Crashed} → IsErrAnd q (λ d. d ≡ c)
+        → UpdatesMade v (Ok r) (release_of redo (view v) k f) w (Err c) → UpdatesMade v₀ (Ok r₀) (recovery redo (view v₀) k) w q
+    turn_cut i m = t.left (rw split (made_cut later i m))
+
+    pub turn_more : {w : Volume} {q : Run} → UpdatesMade v (Ok r) (release_of redo (view v) k f) w (Ok q) → Turn v₀ r₀ redo k w q (f + 1)
+    turn_more {w} {q} m =
+        let d : AllMade v (release_of redo (view v) k f) w = release_all redo k f t.formed (turn_file h) m in
+        let table = all_table _ d in
+        record {
+          low = omega arith;
+          high = omega arith;
+          formed = d.formed;
+          table = table ∙ t.table;
+          own = ap (λ (b : View). b.records k) d.seen ∙ ap (λ (rs : ℕ → Record). rs k) (release_records redo (view v) k f (view v)) ∙ t.own;
+          headers = λ g l. ap (λ (b : View). b.headers g) d.seen ∙ release_other redo (view v) k f g (view v) (omega arith) ∙ t.headers g (omega arith);
+          seen = ap (λ (b : View). changed_by b later) d.seen ∙ sym (changed_append (release_of redo (view v) k f) later (view v))
+              ∙ ap (changed_by (view v)) (sym split) ∙ t.seen;
+          left = λ n. t.left (rw split (made_more m table n));
+        }
+
+    -- A file that k doesn't hold.
+    pub turn_skip : ((view v).headers f).holder ≢ k → Turn v₀ r₀ redo k v r (f + 1)
+    turn_skip n = turn_more (rw (release_none redo (view v) k f n) made_none)
 
   -- The record, after the last file.
-  pub turn_end : length (view v₀).table.files < f → {u : Volume} {q : Run} → UpdatesMade v r (set_record k idle_record ∷ []) u q
-      → UpdatesMade v₀ r₀ (recovery redo (view v₀) k) u q × (q.crashed ≡ false → AllMade v₀ (recovery redo (view v₀) k) u)
-  turn_end h m =
+  pub turn_end : length (view v₀).table.files < f → {u : Volume} {q : Result Run Crashed} → UpdatesMade v (Ok r) (set_record k idle_record ∷ []) u q
+      → UpdatesMade v₀ (Ok r₀) (recovery redo (view v₀) k) u q × OnOk q (AllMade v₀ (recovery redo (view v₀) k) u)
+  turn_end h {u} {q} m =
       let e : length (view v₀).table.files + 1 - f ≡ 0 = omega (arith, t.high) in (
         t.left (rw e m),
-        λ c.
-            let x = t.ahead (made_going m c) in
-            let d = all_one _ x.formed (rw x.table (client.low, client.high, idle_fits (view v).table)) m c in
-            record { formed = d.formed; seen = d.seen ∙ rw e at x.seen },
+        on_ok_weaker q (λ (d : AllMade v (set_record k idle_record ∷ []) u). record { formed = d.formed; seen = d.seen ∙ rw e at t.seen })
+            (all_one _ t.formed (rw t.table (client.low, client.high, idle_fits (view v).table)) m),
       )
 
 -- ------------------------------------------------------------------ what recovery leaves

@@ -5,24 +5,22 @@ use mathlib.Core.Bool.{Bool, true, false}
 use mathlib.Core.List.{List, [], ◌∷◌}
 use Prim.Native.Nat.{ℕ, zero, suc}
 use lib.ListN.{length, take, drop}
+use Rattle.std.specs.Prelude.{Ok}
 use Rattle.interface.specs.declared.Session.{Session}
-use Rattle.interface.specs.declared.Refusal.{Refusal}
-use Rattle.interface.specs.declared.FormatOutcome.{FormatOutcome}
 use Rattle.interface.specs.Answers.{new_session, FormatAnswer, format_done, format_refused}
 use Rattle.lists.specs.Lists.{when◌then◌else◌}
 use Rattle.sector.specs.Contents.{Bytes, Table}
 use Rattle.volume.specs.Volumes.{Volume}
-use Rattle.volume.specs.Format.{table_for, format}
+use Rattle.volume.specs.Format.{Formatted, table_for, format}
 use Rattle.format.specs.Outcomes.{formatted}
 use Rattle.atomicity.specs.Model.{new_model}
 use Rattle.atomicity.specs.Runs.{Step, Configuration, started, stepped, ran_over}
 use Rattle.atomicity.specs.Transcripts.{event_of, events_of, SaidAgrees}
 use Rattle.atomicity.proofs.TranscriptLaws.{transcripts_agree}
-use Rattle.replay.specs.declared.Ended.{Ended}
-use Rattle.replay.specs.declared.Replayed.{Replayed}
 use Rattle.replay.specs.Scripts.{steps}
 use Rattle.replay.specs.Transcripts.{transcript, events_in}
-use Rattle.replay.specs.Replays.{Left, no_room, ran, replay_answer_of, left_by, has_room, run_left, run_formatted, formatted_and_run, AllOrNoneFor, WhereRun}
+use Rattle.replay.specs.declared.Replayed.{Replayed}
+use Rattle.replay.specs.Replays.{Left, no_room, ran, left_by, replay_answer_of, has_room, run_left, run_formatted, formatted_and_run, AllOrNoneFor, WhereRun}
 use Rattle.replay.proofs.BackLaws.{new_four, events_back}
 
 -- The first steps say what they say in the whole list.
@@ -77,13 +75,12 @@ module _ (v : Volume) (T : ℕ) (l script out : Bytes) where
       × WhereRun (replay_answer_of x.ended) (AllOrNoneFor (table_for (length v) T l) script w out')
   claimed x w out' e = (e, subst (Claimed (table_for (length v) T l) script) (sym e) replay_all_or_none)
 
-  -- The ways in which it ends: the format was refused, or the script was run on what it left.
-  module _ (o : FormatOutcome) (w : Volume) (f : formatted o w ≡ format v T l) (room : has_room script (length out) ≡ true) where
-    pub not_formatted_lem : (x : Refusal) → o ≡ FormatOutcome.Refused x
-        → left_by (record { ended = Ended.NotFormatted x; session = new_session }) w out ≡ formatted_and_run v T l script out
-    not_formatted_lem x e = rw (room, ← f, e)
-
-    pub run_formatted_lem : (q : Session) (w' out' : Bytes) → o ≡ FormatOutcome.Done
-        → record { answer = ran; session = q; volume = w'; out = out' } ≡ run_left (started w) script out
-        → left_by (record { ended = Ended.Ran; session = q }) w' out' ≡ formatted_and_run v T l script out
-    run_formatted_lem q w' out' e g = rw (room, ← f, e) g
+  -- So it is where the format was done, and then the script was run on what it left.
+  pub run_claimed : {w : Volume} {q : Session} {w' out' : Bytes} → formatted (Ok tt) w ≡ format v T l
+      → ◌≡◌ {A = Left} (record { answer = ran; session = q; volume = w'; out = out' }) (run_left (started w) script out)
+      → AllOrNoneFor (table_for (length v) T l) script w' out'
+  unfolding run_left
+  run_claimed {w} f e =
+      let i : w ≡ (format v T l).volume = ap (λ (x : Formatted). x.volume) f in
+      let d : (format v T l).answer ≡ format_done = sym (ap (λ (x : Formatted). x.answer) f) in
+      subst (Claimed (table_for (length v) T l) script) (sym (rw i at e)) (ran_claim d)

@@ -17,7 +17,7 @@ use Rattle.atomicity.specs.Model.{new_model}
 use Rattle.atomicity.specs.Runs.{Step, calls, asks}
 use Rattle.atomicity.specs.AllOrNone.{PagesAgree}
 use Rattle.atomicity.specs.Transcripts.{of_call, of_query, Event}
-use Rattle.commands.specs.declared.Action.{Action}
+use Rattle.script.specs.declared.Action.{Action}
 use Rattle.commands.specs.Commands.{step_of}
 use Rattle.replay.specs.Scripts.{action_of, command_in, is_whole, step_in, steps_from, steps}
 use Rattle.replay.specs.Transcripts.{head_bytes, entry_of, transcript, event_in, events_in}

@@ -1,17 +1,17 @@
 -- The steps of a script, one by one: the first whole step, and then the steps behind it. How often one looks for a step doesn't
--- matter, as long as it is as often as there are bytes. And the bytes of a step by their places in the script.
-use mathlib.Core.Path.{◌≡◌, refl, sym, ap, ◌∙◌}
+-- matter, as long as it is as often as there are bytes.
+use mathlib.Core.Path.{◌≡◌, refl, ap, ◌∙◌}
 use mathlib.Core.Bool.{Bool, true, false}
 use mathlib.Core.List.{List, [], ◌∷◌}
-use Prim.Native.Nat.{ℕ, zero, suc, ◌+◌, ◌-◌, ◌≤◌, ◌<◌}
+use Prim.Native.Nat.{ℕ, zero, suc, ◌-◌, ◌≤◌, ◌<◌}
 use native.Mathlib.Omega.{arith}
 use borrow.Author.Tests.{le-leb, lt-leb, leb-true}
 use lib.Dec.{leb}
 use lib.ListN.{length, take, drop, length-drop}
-use lib.Seq.{drop-drop, get_or-drop}
+use Rattle.std.specs.Prelude.{Option, Some, None}
 use Rattle.lists.specs.Lists.{when◌then◌else◌}
 use Rattle.sector.specs.Contents.{Bytes}
-use Rattle.sector.specs.Sectors.{byte, word}
+use Rattle.sector.specs.Sectors.{word}
 use Rattle.lists.proofs.ListLaws.{and_left, and_right}
 use Rattle.atomicity.specs.Runs.{Step}
 use Rattle.commands.specs.Commands.{step_of}
@@ -47,24 +47,23 @@ whole_fits l e = record {
   inside = leb-true (step_size l) (length l) (and_right (leb 8 (length l)) _ e);
 }
 
-pub no_step : (l : Bytes) (n : ℕ) → n ≡ step_length l → n ≡ 0 → is_whole l ≡ false
+pub no_step : (l : Bytes) → ◌≡◌ {A = Option ℕ} None (step_length l) → is_whole l ≡ false
 unfolding step_length
-no_step l n e z = go (is_whole l) refl
+no_step l e = go (is_whole l) e
   where
-    go : (b : Bool) → is_whole l ≡ b → b ≡ false
+    go : (b : Bool) → ◌≡◌ {A = Option ℕ} None (when b then Some (step_size l) else None) → b ≡ false
     go false i = refl
-    go true i = absurd (differ (sym z ∙ e ∙ rw i))
-      where
-        differ : 0 ≡ step_size l → ⊥
-        differ h = omega arith
+    go true i = cc
 
-pub whole_step : (l : Bytes) (n : ℕ) → n ≡ step_length l → 0 < n → Whole l n
+pub whole_step : (l : Bytes) (n : ℕ) → Some n ≡ step_length l → Whole l n
 unfolding step_length
-whole_step l n e p = go (is_whole l) refl
+whole_step l n e = go (is_whole l) refl e
   where
-    go : (b : Bool) → is_whole l ≡ b → Whole l n
-    go true i = let s : n ≡ step_size l = e ∙ rw i in rw s (whole_fits l i)
-    go false i = let z : n ≡ 0 = e ∙ rw i in absurd (omega arith)
+    go : (b : Bool) → is_whole l ≡ b → Some n ≡ (when b then Some (step_size l) else None) → Whole l n
+    go true i h =
+        let s : n ≡ step_size l = cc in
+        rw s (whole_fits l i)
+    go false i h = cc
 
 -- ------------------------------------------------------------------ the steps of a script
 enough : (n m : ℕ) (l : Bytes) → length l ≤ n → length l ≤ m → steps_from n l ≡ steps_from m l
@@ -84,25 +83,14 @@ one_more l = enough (length l) (suc (length l)) l (omega arith) (omega arith)
 pub steps_none : (l : Bytes) → is_whole l ≡ false → steps l ≡ []
 steps_none l e = one_more l ∙ rw e
 
-pub steps_more : (l : Bytes) → is_whole l ≡ true → steps l ≡ step_in l ∷ steps (drop (step_size l) l)
-steps_more l e =
+pub steps_more : (l : Bytes) (n : ℕ) → Whole l n → steps l ≡ step_in l ∷ steps (drop n l)
+steps_more l n w =
     one_more l
-    ∙ rw e (ap (◌∷◌ (step_in l)) (enough (length l) (length (drop (step_size l) l)) (drop (step_size l) l) (omega (arith, length-drop (step_size l) l)) (omega arith)))
+    ∙ rw (w.is_there, w.size) (ap (◌∷◌ (step_in l)) (enough (length l) (length (drop (step_size l) l)) (drop (step_size l) l) (omega (arith, length-drop (step_size l) l)) (omega arith)))
 
--- The same for the steps from `at` on.
-pub steps_at : (l : Bytes) (at n : ℕ) → Whole (drop at l) n → steps (drop at l) ≡ step_in (drop at l) ∷ steps (drop (at + n) l)
-steps_at l at n w =
-    steps_more (drop at l) w.is_there
-    ∙ rw (drop-drop (step_size (drop at l)) at l, ← w.size)
-
--- ------------------------------------------------------------------ the bytes of a step
-pub byte_at : (l : Bytes) (at i : ℕ) → byte (drop at l) i ≡ byte l (at + i)
-byte_at l at i = get_or-drop at l i 0
-
--- The step is its command with its data.
-pub step_data : (l : Bytes) (at n : ℕ) → Whole (drop at l) n
-    → step_in (drop at l) ≡ step_of (command_in (drop at l)) (take (at + n - (at + 8)) (drop (at + 8) l))
+-- The first step is its command with its data.
+pub step_data : (l : Bytes) (n : ℕ) → Whole l n → step_in l ≡ step_of (command_in l) (take (n - 8) (drop 8 l))
 unfolding step_in
-step_data l at n w =
-    let e : at + n - (at + 8) ≡ word (drop at l) 6 = omega (arith, w.size) in
-    rw (e, drop-drop)
+step_data l n w =
+    let e : n - 8 ≡ word l 6 = omega (arith, w.size) in
+    rw e

@@ -1,18 +1,18 @@
 -- The entries of a transcript: how long each is, whatever a step says, and that what is noted of a command is what its step says.
-use native.Mathlib.Numerals.{add-one}
 use mathlib.Core.Path.{◌≡◌, refl, sym, ap, subst, ◌∙◌}
-use mathlib.Core.List.{List, [], ◌∷◌, ◌++◌, append-nil}
-use Prim.Native.Nat.{ℕ, ◌+◌, ◌*◌, ◌-◌, ◌≤◌, ◌/◌, ◌%◌, ◌<◌}
+use mathlib.Core.List.{List, [], ◌∷◌, ◌++◌, append-nil, append_assoc}
+use Prim.Native.Nat.{ℕ, ◌+◌, ◌*◌, ◌-◌, ◌≤◌}
 use native.Mathlib.Omega.{arith}
-use lib.ListN.{length, take, drop, set, length-append, length-take}
-use lib.Seq.{sets, sets-eq, length-sets, get_or-drop}
+use lib.ListN.{length, take, drop, set, length-append, length-take, replicate, length-replicate}
+use lib.Seq.{sets, sets-eq, length-sets, drop-drop}
+use borrow.Rule.Slice.PartMut.{put_mid}
+use Rattle.std.specs.Prelude.{Result, Ok, Err}
 use Rattle.interface.specs.declared.Session.{Session}
 use Rattle.interface.specs.declared.Refusal.{Refusal}
 use Rattle.interface.specs.declared.Outcome.{Outcome}
-use Rattle.interface.specs.declared.QueryOutcome.{QueryOutcome}
 use Rattle.interface.specs.Answers.{Answer, done, crashed, refused, QueryAnswer, found, query_refused, refusal_number, answer_of, query_answer_of}
 use Rattle.sector.specs.Contents.{Bytes}
-use Rattle.sector.specs.Sectors.{sector, byte, word, padded, zero_sector, word_bytes}
+use Rattle.sector.specs.Sectors.{sector, byte, word, padded}
 use Rattle.volume.specs.Volumes.{Volume}
 use Rattle.sector.proofs.CodecLaws.{padded_length}
 use Rattle.sector.proofs.SectorLaws.{sector_length}
@@ -23,7 +23,7 @@ use Rattle.text.specs.Writes.{Wrote, at_front}
 use Rattle.atomicity.specs.Model.{Model}
 use Rattle.atomicity.specs.Runs.{Step, calls, asks, Configuration, given, stepped}
 use Rattle.atomicity.specs.Transcripts.{StepAnswer, of_call, of_query, event_of, events_of}
-use Rattle.commands.specs.declared.Action.{Action}
+use Rattle.script.specs.declared.Action.{Action}
 use Rattle.commands.specs.declared.Command.{Command}
 use Rattle.commands.specs.declared.Told.{Told}
 use Rattle.commands.specs.declared.Performed.{Performed}
@@ -154,17 +154,17 @@ module _ (v w : Volume) (s : Session) (m : Model) (c : Command) (d : Bytes) (p :
 -- ------------------------------------------------------------------ entries in code
 -- What was told, and the room that its entry takes.
 module _ (v : Volume) (s : Session) (c : Command) (t : Told) (q : Session) where
-  pub call_entry : (o : Outcome) → t ≡ Told.Call o → answer_bytes (of_call (answer_of o)) q ≡ entry_of (noted v s c t q)
+  pub call_entry : (o : Result Outcome Refusal) → t ≡ Told.Call o → answer_bytes (of_call (answer_of o)) q ≡ entry_of (noted v s c t q)
   unfolding entry_of
   call_entry o e = rw e (sym (append-nil (answer_bytes (of_call (answer_of o)) q)))
 
-  pub call_room : (o : Outcome) → t ≡ Told.Call o → length (entry_of (noted v s c t q)) ≡ 12
+  pub call_room : (o : Result Outcome Refusal) → t ≡ Told.Call o → length (entry_of (noted v s c t q)) ≡ 12
   call_room o e = rw e (call_length (answer_of o) q [] [])
 
-  pub query_room : (o : QueryOutcome) → t ≡ Told.Query o → length (entry_of (noted v s c t q)) ≡ 524
+  pub query_room : (o : Result ℕ Refusal) → t ≡ Told.Query o → length (entry_of (noted v s c t q)) ≡ 524
   query_room o e = rw e (query_length (query_answer_of o) q _ _ (part_length v (query_answer_of o)) (part_length v (query v (given c.crash s) (query_of c))))
 
-  pub query_answer : (o : QueryOutcome) → t ≡ Told.Query o → IsAnswer v s c t
+  pub query_answer : (o : Result ℕ Refusal) → t ≡ Told.Query o → IsAnswer v s c t
       → query_answer_of o ≡ query v (given c.crash s) (query_of c)
   query_answer o e a = rw e at a
 
@@ -179,46 +179,34 @@ by_length Action.Read c d = refl
 by_length Action.Look c d = refl
 
 -- The entry of the step at the front, by its first byte.
-pub step_entry : (l : Bytes) → action_length (action_of (byte l 0)) ≡ entry_length (step_in l)
+step_entry : (l : Bytes) → action_length (action_of (byte l 0)) ≡ entry_length (step_in l)
 unfolding step_in command_in step_of
 step_entry l = by_length (action_of (byte l 0)) (command_in l) (take (word l 6) (drop 8 l))
 
--- The length of the entry of the step at `at`, as it is computed from the step's first byte.
-pub entry_is : (at : ℕ) (l : Bytes) {a : Action} {e : ℕ} → a ≡ action_of (byte l at) → e ≡ action_length a → e ≡ entry_length (step_in (drop at l))
-entry_is at l i j =
-    let z : at + 0 ≡ at = omega arith in
-    let y : byte l at ≡ byte (drop at l) 0 = rw (get_or-drop at l 0 0, z) in
-    j ∙ ap action_length (i ∙ ap action_of y) ∙ step_entry (drop at l)
+-- The length of the entry of the first step, as it is computed from the step's first byte.
+pub entry_is : (l : Bytes) {a : Action} {e : ℕ} → a ≡ action_of (byte l 0) → e ≡ action_length a → e ≡ entry_length (step_in l)
+entry_is l i j = j ∙ ap action_length i ∙ step_entry l
 
--- One byte; the two bytes of a number.
+-- One byte.
 pub wrote_byte : (b : Bytes) (at x : ℕ) → Wrote b at (x ∷ []) (set b at x) (at + 1)
 wrote_byte b at x = record { bytes = refl; next = refl }
-
-pub wrote_word : (b : Bytes) (at n x y : ℕ) → x ≡ n % 256 → y ≡ n / 256 % 256 → n < 65536
-    → Wrote b at (word_bytes n []) (set (set b at x) (at + 1) y) (at + 2)
-wrote_word b at n x y e f h =
-    let y' : y ≡ n / 256 = omega arith in
-    record { bytes = rw (e, y', add-one at); next = refl }
 
 -- What was written has kept the length of the buffer.
 pub wrote_length : {b d c : Bytes} {at n : ℕ} → Wrote b at d c n → length c ≡ length b
 wrote_length {b} {d} {c} {at} w = ap length w.bytes ∙ length-sets b at d
 
-pub behind_head : (k n : ℕ) (s : Session) {b c : Bytes} {at m : ℕ} → Wrote b at (head_bytes k n s) c m → m ≡ at + 12
-behind_head k n s {b} {c} {at} w = w.next ∙ ap (λ (i : ℕ). at + i) (head_length k n s)
-
 -- A question's entry, by its outcome.
-module _ (v : Volume) (s : Session) (c : Command) (o : QueryOutcome) (q : Session)
+module _ (v : Volume) (s : Session) (c : Command) (o : Result ℕ Refusal) (q : Session)
     (a : query_answer_of o ≡ query v (given c.crash s) (query_of c)) where
-  pub refused_entry : (r : Refusal) → o ≡ QueryOutcome.Refused r
+  pub refused_entry : (r : Refusal) → o ≡ Err r
       → head_bytes 2 (refusal_number r) q ++ (padded [] ++ padded []) ≡ entry_of (noted v s c (Told.Query o) q)
   unfolding entry_of
   refused_entry r e = rw (← a, e)
 
-  pub inside_found : (n : ℕ) → o ≡ QueryOutcome.Sector n → (256 * n + 256 ≤ length v) × (n ≤ 65536)
+  pub inside_found : (n : ℕ) → o ≡ Ok n → (256 * n + 256 ≤ length v) × (n ≤ 65536)
   inside_found n e = subst (Inside v) (sym a ∙ ap query_answer_of e) (query_inside v (given c.crash s) (query_of c))
 
-  pub found_entry : (n : ℕ) → o ≡ QueryOutcome.Sector n
+  pub found_entry : (n : ℕ) → o ≡ Ok n
       → head_bytes 3 n q ++ (sector v n ++ query_part v (given c.crash s) (query_of c)) ≡ entry_of (noted v s c (Told.Query o) q)
   unfolding entry_of
   found_entry n e =
@@ -228,7 +216,19 @@ module _ (v : Volume) (s : Session) (c : Command) (o : QueryOutcome) (q : Sessio
 pub shown_length : (v : Volume) (s : Session) (q : Query) → length (query_part v s q) ≤ 256
 shown_length v s q = part_length v (query v s q)
 
--- Nothing is padded to zeros.
-pub zeros_padded : padded [] ≡ zero_sector
-unfolding padded zero_sector
-zeros_padded = refl
+-- The middle of a buffer filled with zeros: two empty pages, padded, were written.
+zero_pages : replicate 512 0 ≡ padded [] ++ padded []
+unfolding padded
+zero_pages = refl
+
+wrote_part : (b : Bytes) (at k : ℕ) (d : Bytes) → length d ≡ k → at + k ≤ length b → put_mid at k b d ≡ sets b at d
+wrote_part b at k d e h =
+    let z : sets b at d ≡ take at b ++ d ++ drop (at + length d) b = sets-eq d b at (omega arith) in
+    rw (drop-drop k at b, z, e) (sym (append_assoc (take at b) d (drop (at + k) b)))
+
+pub wrote_zeros : (b : Bytes) (at k n : ℕ) (d : Bytes) → k ≡ 512 → n ≡ 512 → at + 512 ≤ length b → d ≡ replicate n 0
+    → Wrote b at (padded [] ++ padded []) (put_mid at k b d) (at + 512)
+wrote_zeros b at k n d e m h f =
+    let g : d ≡ padded [] ++ padded [] = rw (f, m) zero_pages in
+    let i : length d ≡ 512 = rw (f, m) (length-replicate {A = ℕ} 512 0) in
+    record { bytes = rw (← g, e) (wrote_part b at 512 d i h); next = rw (← g, i) }

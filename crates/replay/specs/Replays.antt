@@ -1,5 +1,5 @@
 -- What a replay answers and leaves, and all or none as it is claimed of one.
-use Rattle.std.specs.Prelude.{Bool, ℕ, leb, length}
+use Rattle.std.specs.Prelude.{Bool, ℕ, leb, length, Result, Ok, Err, ⊤}
 use Rattle.interface.specs.declared.Session.{Session}
 use Rattle.interface.specs.Answers.{new_session, refusal_number, FormatAnswer, format_done, format_refused}
 use Rattle.lists.specs.Lists.{when◌then◌else◌}
@@ -10,7 +10,7 @@ use Rattle.text.specs.Writes.{at_front}
 use Rattle.atomicity.specs.Model.{new_model}
 use Rattle.atomicity.specs.Runs.{Configuration, started, ran_over}
 use Rattle.atomicity.specs.Transcripts.{events_of, SaidAgrees}
-use Rattle.replay.specs.declared.Ended.{Ended}
+use Rattle.replay.specs.declared.ReplayError.{ReplayError}
 use Rattle.replay.specs.declared.Replayed.{Replayed}
 use Rattle.replay.specs.Scripts.{steps}
 use Rattle.replay.specs.Transcripts.{transcript, transcript_length, events_in}
@@ -23,10 +23,10 @@ pub data ReplayAnswer : Type 0 where
   ran : ReplayAnswer
 
 -- Each case of it.
-abbrev pub replay_answer_of : Ended → ReplayAnswer
-replay_answer_of Ended.NoRoom = no_room
-replay_answer_of (Ended.NotFormatted r) = not_formatted (refusal_number r)
-replay_answer_of Ended.Ran = ran
+abbrev pub replay_answer_of : Result ⊤ ReplayError → ReplayAnswer
+replay_answer_of (Ok _) = ran
+replay_answer_of (Err ReplayError.NoRoom) = no_room
+replay_answer_of (Err (ReplayError.NotFormatted r)) = not_formatted (refusal_number r)
 
 -- The answer, the session last handed back, the volume, and the buffer of the transcript.
 pub record Left : Type 0 where

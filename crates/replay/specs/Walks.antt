@@ -1,5 +1,5 @@
 -- What the walk over a script and the notes in the transcript rest on, beside the definitions of both.
-use Rattle.std.specs.Prelude.{◌≡◌, [], ℕ}
+use Rattle.std.specs.Prelude.{◌≡◌, [], ℕ, Option, Some, None}
 use Rattle.interface.specs.declared.Session.{Session}
 use Rattle.interface.specs.Answers.{answer_of, query_answer_of}
 use Rattle.lists.specs.Lists.{when◌then◌else◌}
@@ -9,16 +9,16 @@ use Rattle.rules.specs.Calls.{query, part_of, query_part}
 use Rattle.text.specs.Writes.{Wrote}
 use Rattle.atomicity.specs.Runs.{Step, Configuration, given, stepped}
 use Rattle.atomicity.specs.Transcripts.{Event, of_call, of_query, event_of}
-use Rattle.commands.specs.declared.Action.{Action}
+use Rattle.script.specs.declared.Action.{Action}
 use Rattle.commands.specs.declared.Command.{Command}
 use Rattle.commands.specs.declared.Told.{Told}
 use Rattle.commands.specs.Commands.{query_of}
 use Rattle.replay.specs.Scripts.{step_size, is_whole}
 use Rattle.replay.specs.Transcripts.{entry_of}
 
--- The length of the whole step at the front; 0 if there is none.
-unfoldable pub step_length : Bytes → ℕ
-step_length l = when is_whole l then step_size l else 0
+-- The length of the whole step at the front, if there is one.
+unfoldable pub step_length : Bytes → Option ℕ
+step_length l = when is_whole l then Some (step_size l) else None
 
 -- The length of the entry of a command that is this call.
 abbrev pub action_length : Action → ℕ

@@ -1,7 +1,7 @@
 // Scripts of calls as bytes, run through the calls themselves, with a transcript of what every step said.
 // `format_and_replay` has all or none in its contract, as a claim about nothing but the script, the transcript and the
 // volume that is left.
-#![tactic(auto)]
+#![tactic(auto, using(crate::proofs::RunLaws::room_fits))]
 
 mod run;
 mod steps;
@@ -11,38 +11,48 @@ ghost use Rattle.std.specs.Prelude.{◌≡◌, length};
 ghost use Rattle.volume.specs.Format.{table_for};
 ghost use Rattle.atomicity.specs.Model.{Model};
 ghost use Rattle.commands.specs.Commands.{run_of};
+ghost use Rattle.replay.specs.declared.ReplayError.{ReplayError};
 ghost use Rattle.replay.specs.Replays.{replay_answer_of, left_by, replayed, formatted_and_run, AllOrNoneFor, WhereRun};
 
 use crate::run::run_steps;
 use crate::steps::has_room;
-use interface::{FormatOutcome, Refusal, Session};
+use interface::{Refusal, Session};
+use std::error::Error;
+use std::fmt;
 
-// How a replay ended.
-#[derive(Clone, Copy)]
-pub enum Ended {
-    // The transcript has no room in the buffer. Nothing was run, and nothing changed.
+// Why no step was performed. Nothing changed.
+#[derive(Clone, Copy, Debug, PartialEq, Eq)]
+pub enum ReplayError {
+    // The transcript has no room in the buffer.
     NoRoom,
-    // Format was refused. Nothing changed.
+    // Format was refused.
     NotFormatted(Refusal),
-    // Every step was performed.
-    Ran,
 }
 
-// What a replay hands back besides volume and transcript: the session is the one last handed back.
-#[derive(Clone, Copy)]
-pub struct Replayed {
-    pub ended: Ended,
-    pub session: Session,
-}
+impl From<Refusal> for ReplayError {
+    ghost from_gives = { λ r e. e ≡ ReplayError.NotFormatted r };
 
-// What is handed back.
-fn hand_back(e: Ended, s: Session) -> Replayed
-    ensures { result ≡ record { ended = e; session = s } }
-{
-    Replayed {
-        ended: e,
-        session: s,
+    fn from(r: Refusal) -> ReplayError {
+        ReplayError::NotFormatted(r)
     }
+}
+
+impl fmt::Display for ReplayError {
+    fn fmt<W: fmt::Write>(&self, f: &mut fmt::Formatter<W>) -> fmt::Result {
+        match self {
+            ReplayError::NoRoom => write!(f, "no room"),
+            ReplayError::NotFormatted(r) => write!(f, "not formatted: {}", *r),
+        }
+    }
+}
+
+impl Error for ReplayError {}
+
+// What a replay hands back besides volume and transcript: whether every step was performed, and the session last handed back.
+#[derive(Clone, Copy, Debug, PartialEq, Eq)]
+pub struct Replayed {
+    pub ended: Result<(), ReplayError>,
+    pub session: Session,
 }
 
 // Performs all steps of the script, in order, and writes what each said to the front of `out`. The contract is for
@@ -53,9 +63,15 @@ pub fn replay(v: &mut [u8], s: Session, script: &[u8], out: &mut [u8]) -> Replay
     ensures { (m : Model) → left_by result v.new out.new ≡ replayed (run_of v.old s m) script.now out.old }
 {
     if !has_room(script, out.len()) {
-        return hand_back(Ended::NoRoom, s);
+        return Replayed {
+            ended: Err(ReplayError::NoRoom),
+            session: s,
+        };
     }
-    hand_back(Ended::Ran, run_steps(v, s, script, out))
+    Replayed {
+        ended: Ok(()),
+        session: run_steps(v, s, script, out),
+    }
 }
 
 // Formats the array and replays the script on it. If it ran, then all or none holds: fed with the script and the
@@ -72,10 +88,19 @@ pub fn format_and_replay(
         (AllOrNoneFor (table_for (length v.old) clients shape.now) script.now v.new out.new) }
 {
     if !has_room(script, out.len()) {
-        return hand_back(Ended::NoRoom, Session::new());
+        return Replayed {
+            ended: Err(ReplayError::NoRoom),
+            session: Session::new(),
+        };
     }
     match format::format(v, clients, shape) {
-        FormatOutcome::Refused(r) => hand_back(Ended::NotFormatted(r), Session::new()),
-        FormatOutcome::Done => hand_back(Ended::Ran, run_steps(v, Session::new(), script, out)),
+        Err(r) => Replayed {
+            ended: Err(r.into()),
+            session: Session::new(),
+        },
+        Ok(()) => Replayed {
+            ended: Ok(()),
+            session: run_steps(v, Session::new(), script, out),
+        },
     }
 }

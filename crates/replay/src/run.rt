@@ -1,5 +1,5 @@
 // The steps of a script performed one after the other, each noted in the transcript.
-ghost use Rattle.std.specs.Prelude.{◌≡◌, ◌+◌, ◌≤◌, ◌<◌, length, drop};
+ghost use Rattle.std.specs.Prelude.{◌≡◌, ◌+◌, ◌≤◌, length, Some};
 ghost use Rattle.atomicity.specs.Model.{Model};
 ghost use Rattle.commands.specs.Commands.{run_of};
 ghost use Rattle.replay.specs.Scripts.{steps, step_in};
@@ -7,7 +7,7 @@ ghost use Rattle.replay.specs.Transcripts.{entry_length, transcript_length};
 ghost use Rattle.replay.specs.Replays.{run_left, ran};
 ghost use Rattle.replay.specs.Walks.{step_length, IsStepped};
 
-use crate::steps::{HEAD, command_at, step_length};
+use crate::steps::{HEAD, first_command, step_length};
 use crate::transcript::put_entry;
 use interface::Session;
 
@@ -18,31 +18,19 @@ struct Stepped {
     next: usize,
 }
 
-// Performs the step of n bytes that begins at `at`, and writes its entry at `to`.
-fn step(
-    v: &mut [u8],
-    s: Session,
-    script: &[u8],
-    at: usize,
-    n: usize,
-    out: &mut [u8],
-    to: usize,
-) -> Stepped
-    requires { (n ≡ step_length (drop at script.now)) × (0 < n) × (at + n ≤ length script.now)
-        × (to + entry_length (step_in (drop at script.now)) ≤ length out.old) }
-    ensures { (m : Model) → IsStepped (run_of v.old s m) (step_in (drop at script.now))
+// Performs the step of n bytes at the front of the script, and writes its entry at `to`.
+fn step(v: &mut [u8], s: Session, script: &[u8], n: usize, out: &mut [u8], to: usize) -> Stepped
+    requires { (Some n ≡ step_length script.now) × (8 ≤ n) × (n ≤ length script.now)
+        × (to + entry_length (step_in script.now) ≤ length out.old) }
+    ensures { (m : Model) → IsStepped (run_of v.old s m) (step_in script.now)
         v.new result.session out.old to out.new result.next }
 {
-    let c = command_at(script, at);
-    let from = at + HEAD;
-    let end = at + n;
-    let p = commands::perform(v, s, c, &script[from..end]);
-    let told = p.told;
-    let q = p.session;
-    let next = put_entry(v, s, c, told, q, out, to);
+    let c = first_command(script);
+    let p = commands::perform(v, s, c, &script[HEAD..n]);
+    let next = put_entry(v, s, c, p, out, to);
     Stepped {
-        session: q,
-        next: next,
+        session: p.session,
+        next,
     }
 }
 
@@ -54,14 +42,12 @@ pub fn run_steps(v: &mut [u8], s: Session, script: &[u8], out: &mut [u8]) -> Ses
 {
     let mut last = s;
     let mut to = 0;
-    let mut at = 0;
-    let mut n = step_length(script, 0);
-    while n != 0 {
-        let done = step(v, last, script, at, n, out, to);
+    let mut rest = script;
+    while let Some(n) = step_length(rest) {
+        let done = step(v, last, rest, n, out, to);
         last = done.session;
         to = done.next;
-        at += n;
-        n = step_length(script, at);
+        rest = &rest[n..];
     }
     last
 }

@@ -1,32 +1,33 @@
-// The steps of a script: where each ends, its command, and whether the transcript of all of them has room.
-ghost use Rattle.std.specs.Prelude.{◌≡◌, not, ◌+◌, ◌≤◌, eqb, length, drop};
+// The steps of a script: how long each is, its command, and whether the transcript of all of them has room.
+#![tactic(auto, using(crate::proofs::ScriptLaws::short_none, crate::proofs::ScriptLaws::cut_none, crate::proofs::ScriptLaws::fits_whole, crate::proofs::ScriptLaws::no_step, crate::proofs::RunLaws::room_none), unfolding(crate::specs::Walks::step_length, crate::specs::Scripts::command_in))]
+
+ghost use Rattle.std.specs.Prelude.{◌≡◌, ◌≤◌, length, IfSome};
 ghost use Rattle.replay.specs.Scripts.{action_of, command_in};
 ghost use Rattle.replay.specs.Replays.{has_room};
 ghost use Rattle.replay.specs.Walks.{step_length, action_length};
 
 use commands::{Action, Command};
-use sector::wide;
 
 // The bytes of a step before its data.
 pub const HEAD: usize = 8;
 
-// The length of the step that begins at `at`, with its data; 0 if no whole one begins there.
-pub fn step_length(script: &[u8], at: usize) -> usize
-    requires { at ≤ length script.now }
-    ensures { (result ≡ step_length (drop at script.now)) × (at + result ≤ length script.now) }
+// The length of the step at the front, with its data, if a whole one stands there.
+pub fn step_length(script: &[u8]) -> Option<usize>
+    ensures value { result ≡ step_length script.now }
+    ensures inside { IfSome result (λ n. (8 ≤ n) × (n ≤ length script.now)) }
 {
-    let left = script.len() - at;
-    if left < HEAD {
-        return 0;
+    if script.len() < HEAD {
+        return None;
     }
-    let n = HEAD + (wide(script[at + 6]) + 256 * wide(script[at + 7]));
-    if left < n {
-        return 0;
+    let data = u16::from_le_bytes([script[6], script[7]]);
+    let n = HEAD + usize::from(data);
+    if script.len() < n {
+        return None;
     }
-    n
+    Some(n)
 }
 
-// Which call a step is.
+// Which call a step is. No `From<u8>`: `Action` is of another crate, and the orphan rule holds here too.
 fn action(n: u8) -> Action
     ensures { result ≡ action_of n }
 {
@@ -42,25 +43,18 @@ fn action(n: u8) -> Action
     }
 }
 
-// Whether the supply fails before a step.
-fn is_crash(n: u8) -> bool
-    ensures { result ≡ not (eqb n 0) }
-{
-    n != 0
-}
-
-// The command of the step that begins at `at`.
-pub fn command_at(script: &[u8], at: usize) -> Command
-    requires { at + 8 ≤ length script.now }
-    ensures { result ≡ command_in (drop at script.now) }
+// The command of the step at the front.
+pub fn first_command(script: &[u8]) -> Command
+    requires { 8 ≤ length script.now }
+    ensures { result ≡ command_in script.now }
 {
     Command {
-        action: action(script[at]),
-        crash: is_crash(script[at + 1]),
-        client: script[at + 2],
-        file: script[at + 3],
-        page: script[at + 4],
-        budget: script[at + 5],
+        action: action(script[0]),
+        crash: script[1] != 0,
+        client: script[2],
+        file: script[3],
+        page: script[4],
+        budget: script[5],
     }
 }
 
@@ -69,14 +63,8 @@ fn entry_length(a: Action) -> usize
     ensures { result ≡ action_length a }
 {
     match a {
-        Action::Begin => 12,
-        Action::Open => 12,
-        Action::OpenRead => 12,
-        Action::Write => 12,
-        Action::Commit => 12,
-        Action::Abort => 12,
-        Action::Read => 524,
-        Action::Look => 524,
+        Action::Read | Action::Look => 524,
+        _ => 12,
     }
 }
 
@@ -85,16 +73,14 @@ pub fn has_room(script: &[u8], room: usize) -> bool
     ensures { result ≡ has_room script.now room }
 {
     let mut left = room;
-    let mut at = 0;
-    let mut n = step_length(script, 0);
-    while n != 0 {
-        let e = entry_length(action(script[at]));
+    let mut rest = script;
+    while let Some(n) = step_length(rest) {
+        let e = entry_length(action(rest[0]));
         if left < e {
             return false;
         }
         left -= e;
-        at += n;
-        n = step_length(script, at);
+        rest = &rest[n..];
     }
     true
 }

@@ -1,104 +1,92 @@
--- A line read from byte i on: each definition over the bytes from i on, by the byte at i and those behind it, and at the end of
--- the line. So in every loop over a line what is left decides.
-use mathlib.Core.Path.{◌≡◌, refl}
-use mathlib.Core.Bool.{true, false, ◌&&◌, ◌||◌, and-false}
+-- The fields of a line: what the library's search for a space finds, and what is left of a line while its number is read.
+use mathlib.Core.Path.{◌≡◌, refl, ap, sym, ◌∙◌}
+use mathlib.Core.Bool.{Bool, true, false, cond}
 use mathlib.Core.List.{[], ◌∷◌}
 use mathlib.Core.Logic.{◌≢◌}
-use Prim.Native.Nat.{ℕ, ◌+◌, ◌*◌, ◌-◌, ◌≤◌, ◌<◌, min}
-use native.Mathlib.Numerals.{add-one}
+use Prim.Native.Nat.{ℕ, suc, ◌+◌, ◌-◌, ◌≤◌, ◌<◌}
+use native.Mathlib.Numerals.{add-one, one-add}
 use native.Mathlib.Omega.{arith}
-use borrow.Author.Tests.{eq-eqb, ne_eqb, le-leb, lt-leb}
-use lib.Dec.{eqb, leb}
-use lib.ListN.{length, drop, get_or, drop_of_length-le}
-use lib.Seq.{drop-drop}
+use borrow.Author.Tests.{eq-eqb, ne_eqb, ltb-false}
+use lib.Dec.{eqb, ltb}
+use lib.Pointwise.{pointwise}
+use lib.ListN.{length, drop, take, get_or, drop_of_length-le, length-drop}
+use lib.Seq.{take-length, take_all}
+use Rattle.std.specs.Prelude.{Option, Some, None}
+use Rattle.std.specs.Option.{unwrap_or}
+use Rattle.std.specs.List.{filter, position_or_len}
 use Rattle.sector.specs.Contents.{Bytes}
+use Rattle.lists.proofs.CaseLaws.{by_equal}
 use Rattle.lists.proofs.TestLaws.{drop_next}
-use Rattle.script.specs.Fields.{is_space, spaces, arguments, behind_space, from_field, too_large, digits_from, front, argument, has_word}
+use Rattle.script.specs.Fields.{is_space, is_digit, arguments, before_space, behind_space, from_field, too_large, digits_from, has_word}
 
--- ------------------------------------------------------------------ at a byte
-module _ (l : Bytes) (i : ℕ) (h : i < length l) where
-  next : drop i l ≡ get_or l i 0 ∷ drop (i + 1) l
-  next = drop_next l i 0 h
+-- The spaces of a line, as the library counts them and finds the first one.
+pub counted : (l : Bytes) → length (filter is_space l) ≡ arguments l
+counted [] = refl
+counted (c ∷ l) =
+    by_equal c 0x20
+    (λ e. rw (eq-eqb _ _ e) (omega (arith, counted l)))
+    (λ e. rw (ne_eqb _ _ e) (omega (arith, counted l)))
 
-  pub arguments_more : (w n : ℕ) → w ≡ n + arguments (drop i l) → w ≡ n + spaces (get_or l i 0) + arguments (drop (i + 1) l)
-  arguments_more w n e =
-      let s : arguments (drop i l) ≡ spaces (get_or l i 0) + arguments (drop (i + 1) l) = rw next in
-      omega arith
+pub before_first_space : (l : Bytes) → take (position_or_len is_space l) l ≡ before_space l
+before_first_space [] = refl
+before_first_space (c ∷ l) = by_equal c 0x20 (λ e. rw (eq-eqb _ _ e)) (λ e. rw (ne_eqb _ _ e, one-add, before_first_space l))
 
-  pub behind_here : get_or l i 0 ≡ 0x20 → behind_space (drop i l) ≡ drop (i + 1) l
-  behind_here e = rw (next, eq-eqb _ _ e)
+pub behind_first_space : (l : Bytes) → drop (position_or_len is_space l + 1) l ≡ behind_space l
+behind_first_space [] = refl
+behind_first_space (c ∷ l) =
+    let p = position_or_len is_space l in
+    let q : 1 + p + 1 ≡ suc (p + 1) = omega arith in
+    by_equal c 0x20 (λ e. rw (eq-eqb _ _ e)) (λ e. rw (ne_eqb _ _ e, q, behind_first_space l))
 
-  pub behind_later : get_or l i 0 ≢ 0x20 → behind_space (drop i l) ≡ behind_space (drop (i + 1) l)
-  behind_later e = rw (next, ne_eqb _ _ e)
+-- Where the first space is, and what the search for it answers, by whether there is one.
+abbrev pub first_space : Bytes → ℕ
+first_space l = position_or_len is_space l
 
-  pub digits_end : (n : ℕ) → get_or l i 0 ≡ 0x20 → digits_from n (drop i l) ≡ n
-  digits_end n e = rw (next, eq-eqb _ _ e)
+abbrev pub found : Bytes → Bool → Option ℕ
+found l b = cond b (Some (first_space l)) None
 
-  pub digits_low : (n : ℕ) → get_or l i 0 ≢ 0x20 → get_or l i 0 < 48 → digits_from n (drop i l) ≡ too_large
-  digits_low n e lt = rw (next, ne_eqb _ _ e, lt-leb 48 _ lt)
+module _ (l : Bytes) where
+  found_here : (b : Bool) (i : ℕ) → found l b ≡ Some i → first_space l ≡ i
+  found_here true i e = ap (λ (o : Option ℕ). unwrap_or o 0) e
+  found_here false i e = ap (λ (o : Option ℕ). unwrap_or o (first_space l)) e
 
-  pub digits_high : (n : ℕ) → get_or l i 0 ≢ 0x20 → 57 < get_or l i 0 → digits_from n (drop i l) ≡ too_large
-  digits_high n e lt = rw (next, ne_eqb _ _ e, lt-leb _ 57 lt, and-false (leb 48 (get_or l i 0)))
+  found_nowhere : (b : Bool) → found l b ≡ None → b ≡ false
+  found_nowhere true e =
+      let k : first_space l ≡ first_space l + 1 = ap (λ (o : Option ℕ). unwrap_or o (first_space l + 1)) e in
+      absurd (omega arith)
+  found_nowhere false e = refl
 
-  pub digits_more : (n : ℕ) → get_or l i 0 ≢ 0x20 → 48 ≤ get_or l i 0 → get_or l i 0 ≤ 57
-      → digits_from n (drop i l) ≡ digits_from (min (10 * n + (get_or l i 0 - 48)) too_large) (drop (i + 1) l)
-  digits_more n e lo hi = rw (next, ne_eqb _ _ e, le-leb 48 _ lo, le-leb _ 57 hi)
+  module _ {r : Option ℕ} (q : r ≡ found l (ltb (first_space l) (length l))) where
+    pub cut_at : (i : ℕ) → r ≡ Some i → (take i l ≡ before_space l) × (take (length l - (i + 1)) (drop (i + 1) l) ≡ behind_space l)
+    cut_at i e =
+        let k : first_space l ≡ i = found_here (ltb (first_space l) (length l)) i (sym q ∙ e) in
+        rw (← k) (before_first_space l, rw (← length-drop (first_space l + 1) l, take-length (drop (first_space l + 1) l)) (behind_first_space l))
 
--- ------------------------------------------------------------------ at the end
-module _ (l : Bytes) (i : ℕ) (h : length l ≤ i) where
-  end : drop i l ≡ []
-  end = drop_of_length-le l h
+    pub cut_nowhere : r ≡ None → (l ≡ before_space l) × ([] ≡ behind_space l)
+    cut_nowhere e =
+        let h : length l ≤ first_space l = ltb-false _ _ (found_nowhere (ltb (first_space l) (length l)) (sym q ∙ e)) in (
+          sym (take_all (first_space l) l h) ∙ before_first_space l,
+          sym (drop_of_length-le l {i = first_space l + 1} (omega arith)) ∙ behind_first_space l,
+        )
 
-  pub arguments_end : (w n : ℕ) → w ≡ n + arguments (drop i l) → n ≡ w
-  arguments_end w n e =
-      let s : arguments (drop i l) ≡ 0 = rw end in
-      omega arith
+-- A line has the word where their first fields are the same.
+pub same_word : (w l : Bytes) → pointwise eqb (before_space l) (before_space w) ≡ has_word w l
+same_word [] [] = refl
+same_word [] (c ∷ l) = by_equal c 0x20 (λ e. rw (eq-eqb _ _ e)) (λ e. rw (ne_eqb _ _ e))
+same_word (x ∷ w) [] = by_equal x 0x20 (λ e. rw e) (λ e. rw (ne_eqb _ _ e, ne_eqb 0x20 x (λ q. e (sym q))))
+same_word (x ∷ w) (c ∷ l) =
+    by_equal x 0x20
+    (λ e. rw e (by_equal c 0x20 (λ f. rw (eq-eqb _ _ f)) (λ f. rw (ne_eqb _ _ f))))
+    (λ e. by_equal c 0x20
+    (λ f. rw (f, ne_eqb _ _ e, ne_eqb 0x20 x (λ q. e (sym q))))
+    (λ f. rw (ne_eqb _ _ e, ne_eqb _ _ f, same_word w l)))
 
-  pub behind_end : behind_space (drop i l) ≡ drop i l
-  behind_end = rw end
+-- A byte that is neither a space nor a digit.
+pub digits_no : (l : Bytes) (i : ℕ) (n : ℕ) → i < length l → get_or l i 0 ≢ 0x20 → is_digit (get_or l i 0) ≡ false
+    → digits_from n (drop i l) ≡ too_large
+digits_no l i n h e f = rw (drop_next l i 0 h, ne_eqb _ _ e, f)
 
-  pub digits_done : (n : ℕ) → digits_from n (drop i l) ≡ n
-  digits_done n = rw end
-
--- ------------------------------------------------------------------ a word
--- The byte at i, as the definitions have it.
-pub front_here : (l : Bytes) (i : ℕ) → i < length l → get_or l i 0 ≡ front (drop i l)
-front_here l i h = rw (drop_next l i 0 h)
-
-pub front_end : (l : Bytes) (i : ℕ) → length l ≤ i → 0x20 ≡ front (drop i l)
-front_end l i h = rw (drop_of_length-le l h)
-
--- With c, the line's byte at i.
-module _ (w l : Bytes) (i : ℕ) {c : ℕ} (f : c ≡ front (drop i l)) where
-  module _ (h : i < length w) where
-    at_byte : has_word (drop i w) (drop i l) ≡ (eqb c (get_or w i 0) && (is_space (get_or w i 0) || has_word (drop (i + 1) w) (drop (i + 1) l)))
-    at_byte = rw (drop_next w i 0 h, drop-drop 1 i l, f)
-
-    pub word_differs : c ≢ get_or w i 0 → has_word (drop i w) (drop i l) ≡ false
-    word_differs e = rw (at_byte, ne_eqb _ _ e)
-
-    pub word_whole : c ≡ get_or w i 0 → get_or w i 0 ≡ 0x20 → has_word (drop i w) (drop i l) ≡ true
-    word_whole e s = rw (at_byte, eq-eqb _ _ e, eq-eqb _ _ s)
-
-    pub word_more : c ≡ get_or w i 0 → get_or w i 0 ≢ 0x20 → has_word (drop i w) (drop i l) ≡ has_word (drop (i + 1) w) (drop (i + 1) l)
-    word_more e s = rw (at_byte, eq-eqb _ _ e, ne_eqb _ _ s)
-
-  pub word_end : length w ≤ i → has_word (drop i w) (drop i l) ≡ is_space c
-  word_end h = rw (drop_of_length-le w {i = i} h, f)
-
--- ------------------------------------------------------------------ field by field
-pub field_first : (l : Bytes) → drop 0 l ≡ from_field 0 l
+-- The line from the next field on.
+pub field_next : (l : Bytes) (n : ℕ) {rest : Bytes} → rest ≡ from_field n l → behind_space rest ≡ from_field (n + 1) l
 unfolding from_field
-field_first l = refl
-
-pub field_next : (l : Bytes) (n at : ℕ) → drop at l ≡ from_field n l → behind_space (drop at l) ≡ from_field (n + 1) l
-unfolding from_field
-field_next l n at e = rw (e, add-one n)
-
--- Argument n, from where its field begins, with its first byte c.
-module _ (l : Bytes) (n at : ℕ) {c : ℕ} (e : drop at l ≡ from_field n l) (f : c ≡ front (drop at l)) where
-  pub argument_none : c ≡ 0x20 → too_large ≡ argument n l
-  argument_none h = rw (← e, ← f, eq-eqb _ _ h)
-
-  pub argument_digits : {r : ℕ} → c ≢ 0x20 → r ≡ digits_from 0 (drop at l) → r ≡ argument n l
-  argument_digits h q = rw (← e, ← f, ne_eqb _ _ h) q
+field_next l n e = rw (e, add-one n)

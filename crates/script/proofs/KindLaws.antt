@@ -1,27 +1,23 @@
--- What a line asks for, row after row: what is left of the table decides.
-use mathlib.Core.Path.{◌≡◌, ◌∙◌, sym}
-use mathlib.Core.Bool.{true, false}
-use mathlib.Core.List.{List, ◌∷◌}
-use Prim.Native.Nat.{ℕ, ◌+◌, ◌≤◌}
-use lib.ListN.{length, drop, drop_of_length-le, get_or-eq_default}
+-- What a line asks for: the first row that it fits.
+use mathlib.Core.Path.{◌≡◌, refl}
+use mathlib.Core.Bool.{Bool}
+use mathlib.Core.List.{List, [], ◌∷◌}
+use Prim.Native.Nat.{ℕ, zero, suc}
+use native.Mathlib.Numerals.{add-one}
+use Rattle.std.specs.Option.{option_map}
+use Rattle.std.specs.List.{find, list_all, range_with_len}
+use Rattle.lists.specs.Lists.{every, from}
+use Rattle.lists.proofs.CaseLaws.{by_test}
 use Rattle.sector.specs.Contents.{Bytes}
-use Rattle.script.specs.declared.Kind.{Kind}
 use Rattle.script.specs.declared.Row.{Row}
-use Rattle.script.specs.Kinds.{fits, kind_in, limits, limit}
+use Rattle.script.specs.Kinds.{fits, kind_in}
 
-pub limit_rest : (x : Row) (i : ℕ) → 5 ≤ i → 255 ≡ limit x i
-limit_rest x i h = sym (get_or-eq_default (limits x) 255 {n = i} h)
+pub kind_found : (xs : List Row) (l : Bytes) → option_map (λ x. x.kind) (find (λ x. fits x l) xs) ≡ kind_in xs l
+unfolding kind_in
+kind_found [] l = refl
+kind_found (x ∷ xs) l = by_test (fits x l) (λ e. rw e) (λ e. rw (e, kind_found xs l))
 
-module _ (xs : List Row) (l : Bytes) (k : Kind) (i : ℕ) (q : k ≡ kind_in (drop i xs) l) where
-  module _ (x : Row) (next : drop i xs ≡ x ∷ drop (i + 1) xs) where
-    pub kind_here : fits x l ≡ true → k ≡ x.0
-    unfolding kind_in
-    kind_here f = q ∙ rw (next, f)
-
-    pub kind_later : fits x l ≡ false → k ≡ kind_in (drop (i + 1) xs) l
-    unfolding kind_in
-    kind_later f = q ∙ rw (next, f)
-
-  pub kind_none : length xs ≤ i → k ≡ Kind.Unknown
-  unfolding kind_in
-  kind_none h = q ∙ rw (drop_of_length-le xs {i = i} h)
+-- The library's words for the numbers from a on, and for a test of each.
+pub all_from : (t : ℕ → Bool) (a n : ℕ) → list_all t (range_with_len a n) ≡ every t (from a n)
+all_from t a zero = refl
+all_from t a (suc n) = rw (add-one a, all_from t (suc a) n)

@@ -21,6 +21,11 @@ abbrev pub arguments : Bytes → ℕ
 arguments [] = 0
 arguments (c ∷ l) = spaces c + arguments l
 
+-- What stands before the first space.
+abbrev pub before_space : Bytes → Bytes
+before_space [] = []
+before_space (c ∷ l) = when is_space c then [] else c ∷ before_space l
+
 -- What stands behind the first space, or nothing.
 abbrev pub behind_space : Bytes → Bytes
 behind_space [] = []

@@ -1,10 +1,10 @@
 // What a line asks for, by its word and its arguments.
-ghost use Rattle.std.specs.Prelude.{◌≡◌, ◌∷◌, ◌+◌, ◌<◌, length, drop};
-ghost use Rattle.script.specs.Kinds.{rows, arguments_fit, kind_of};
+ghost use Rattle.std.specs.Prelude.{◌≡◌};
+ghost use Rattle.script.specs.Kinds.{arguments_fit, kind_of};
 ghost use Rattle.script.specs.Kinds;
 
 use crate::fields::{argument, arguments, has_word};
-use crate::{Kind, Row};
+use crate::{Action, Kind, Row};
 
 // The most that an argument may be: any byte, a volume's length, an address and a sector in the longest volume, the length of a
 // write's data, and a session's marks, clients and files.
@@ -25,98 +25,156 @@ const CLIENT: u32 = 4;
 const FILE: u32 = 16;
 
 const ROWS: [Row; 16] = [
-    Row(Kind::Format, *b"format    ", 2, 66, LENGTH, B, B, B, B),
-    Row(Kind::Begin, *b"begin     ", 1, 2, B, B, B, B, B),
-    Row(Kind::Open, *b"open      ", 2, 3, B, B, B, B, B),
-    Row(Kind::OpenRead, *b"open_read ", 2, 3, B, B, B, B, B),
-    Row(Kind::Write, *b"write     ", 5, 6, B, B, B, B, DATA),
-    Row(Kind::Commit, *b"commit    ", 1, 2, B, B, B, B, B),
-    Row(Kind::Abort, *b"abort     ", 1, 2, B, B, B, B, B),
-    Row(Kind::Read, *b"read      ", 3, 3, B, B, B, B, B),
-    Row(Kind::Look, *b"look      ", 2, 2, B, B, B, B, B),
-    Row(Kind::Spare, *b"spare     ", 1, 1, B, B, B, B, B),
-    Row(Kind::Session, *b"session   ", 1, 1, SESSION, B, B, B, B),
-    Row(Kind::ShowSession, *b"session   ", 0, 0, B, B, B, B, B),
-    Row(Kind::Reading, *b"reading   ", 2, 2, CLIENT, FILE, B, B, B),
-    Row(Kind::Poke, *b"poke      ", 2, 2, ADDRESS, B, B, B, B),
-    Row(Kind::Dump, *b"dump      ", 1, 1, SECTOR, B, B, B, B),
-    Row(Kind::List, *b"list      ", 0, 0, B, B, B, B, B),
+    Row {
+        kind: Kind::Format,
+        word: *b"format    ",
+        least: 2,
+        most: 66,
+        limits: [LENGTH, B, B, B, B],
+    },
+    Row {
+        kind: Kind::Call(Action::Begin),
+        word: *b"begin     ",
+        least: 1,
+        most: 2,
+        limits: [B; 5],
+    },
+    Row {
+        kind: Kind::Call(Action::Open),
+        word: *b"open      ",
+        least: 2,
+        most: 3,
+        limits: [B; 5],
+    },
+    Row {
+        kind: Kind::Call(Action::OpenRead),
+        word: *b"open_read ",
+        least: 2,
+        most: 3,
+        limits: [B; 5],
+    },
+    Row {
+        kind: Kind::Call(Action::Write),
+        word: *b"write     ",
+        least: 5,
+        most: 6,
+        limits: [B, B, B, B, DATA],
+    },
+    Row {
+        kind: Kind::Call(Action::Commit),
+        word: *b"commit    ",
+        least: 1,
+        most: 2,
+        limits: [B; 5],
+    },
+    Row {
+        kind: Kind::Call(Action::Abort),
+        word: *b"abort     ",
+        least: 1,
+        most: 2,
+        limits: [B; 5],
+    },
+    Row {
+        kind: Kind::Call(Action::Read),
+        word: *b"read      ",
+        least: 3,
+        most: 3,
+        limits: [B; 5],
+    },
+    Row {
+        kind: Kind::Call(Action::Look),
+        word: *b"look      ",
+        least: 2,
+        most: 2,
+        limits: [B; 5],
+    },
+    Row {
+        kind: Kind::Spare,
+        word: *b"spare     ",
+        least: 1,
+        most: 1,
+        limits: [B; 5],
+    },
+    Row {
+        kind: Kind::Session,
+        word: *b"session   ",
+        least: 1,
+        most: 1,
+        limits: [SESSION, B, B, B, B],
+    },
+    Row {
+        kind: Kind::ShowSession,
+        word: *b"session   ",
+        least: 0,
+        most: 0,
+        limits: [B; 5],
+    },
+    Row {
+        kind: Kind::Reading,
+        word: *b"reading   ",
+        least: 2,
+        most: 2,
+        limits: [CLIENT, FILE, B, B, B],
+    },
+    Row {
+        kind: Kind::Poke,
+        word: *b"poke      ",
+        least: 2,
+        most: 2,
+        limits: [ADDRESS, B, B, B, B],
+    },
+    Row {
+        kind: Kind::Dump,
+        word: *b"dump      ",
+        least: 1,
+        most: 1,
+        limits: [SECTOR, B, B, B, B],
+    },
+    Row {
+        kind: Kind::List,
+        word: *b"list      ",
+        least: 0,
+        most: 0,
+        limits: [B; 5],
+    },
 ];
 
-// Row i.
-fn row_at(i: usize) -> Row
-    requires { i < length rows }
-    ensures { drop i rows ≡ result ∷ drop (i + 1) rows }
-{
-    ROWS[i]
-}
-
 // The most that the argument behind i others may be.
-fn limit(x: Row, i: usize) -> u32
-    ensures { result ≡ Kinds.limit x i }
+fn limit(x: &Row, i: usize) -> u32
+    ensures { result ≡ Kinds.limit x.now i }
 {
-    if i == 0 {
-        return x.4;
-    }
-    if i == 1 {
-        return x.5;
-    }
-    if i == 2 {
-        return x.6;
-    }
-    if i == 3 {
-        return x.7;
-    }
-    if i == 4 {
-        return x.8;
-    }
-    B
+    x.limits.get(i).copied().unwrap_or(B)
 }
 
 // Whether the first n arguments are what they may be.
-fn arguments_fit(line: &[u8], x: Row, n: usize) -> bool
-    ensures { result ≡ arguments_fit x line.now n }
+fn arguments_fit(line: &[u8], x: &Row, n: usize) -> bool
+    ensures { result ≡ arguments_fit x.now line.now n }
 {
-    let mut i = 0;
-    while i < n {
-        let a = argument(line, i + 1);
-        if limit(x, i) < a {
-            return false;
-        }
-        i += 1;
-    }
-    true
+    (0..n).all(|i| argument(line, i + 1) <= limit(x, i))
 }
 
 // Whether the line is one of the row's. Ruled out: a line with a number too many; one with a larger number than its place allows
 // (`must-fail/data_of_513`).
-fn fits(line: &[u8], x: Row) -> bool
-    ensures { result ≡ Kinds.fits x line.now }
+fn fits(line: &[u8], x: &Row) -> bool
+    ensures { result ≡ Kinds.fits x.now line.now }
 {
-    if !has_word(line, &x.1) {
+    if !has_word(line, &x.word) {
         return false;
     }
     let n = arguments(line);
-    if n < x.2 {
+    if n < x.least {
         return false;
     }
-    if x.3 < n {
+    if x.most < n {
         return false;
     }
     arguments_fit(line, x, n)
 }
 
-// What a line asks for.
-pub fn kind(line: &[u8]) -> Kind
+// What a line asks for, if it is understood.
+pub fn kind(line: &[u8]) -> Option<Kind>
     ensures { result ≡ kind_of line.now }
 {
-    let mut i = 0;
-    while i < ROWS.len() {
-        let x = row_at(i);
-        if fits(line, x) {
-            return x.0;
-        }
-        i += 1;
-    }
-    Kind::Unknown
+    let x = ROWS.iter().find(|x| fits(line, x))?;
+    Some(x.kind)
 }

@@ -5,10 +5,9 @@ pub mod fields;
 pub mod kinds;
 pub mod texts;
 
-// What a line asks for.
-#[derive(Clone, Copy)]
-pub enum Kind {
-    Format,
+// Which call a command is.
+#[derive(Clone, Copy, Debug, PartialEq, Eq)]
+pub enum Action {
     Begin,
     Open,
     OpenRead,
@@ -17,6 +16,13 @@ pub enum Kind {
     Abort,
     Read,
     Look,
+}
+
+// What a line asks for.
+#[derive(Clone, Copy, Debug, PartialEq, Eq)]
+pub enum Kind {
+    Format,
+    Call(Action),
     // How many slots are left.
     Spare,
     // The session is set.
@@ -28,21 +34,16 @@ pub enum Kind {
     Poke,
     Dump,
     List,
-    // Not understood.
-    Unknown,
 }
 
-// A row of the table of lines: the kind, the word with spaces behind it, the least and the most arguments, and the most
-// that each of the first five may be; any other is a byte.
-#[derive(Clone, Copy)]
-pub struct Row(
-    pub Kind,
-    pub [u8; 10],
-    pub usize,
-    pub usize,
-    pub u32,
-    pub u32,
-    pub u32,
-    pub u32,
-    pub u32,
-);
+// A row of the table of lines: what the line asks for, its word with spaces behind it, the least and the most arguments, and the
+// most that each of the first five may be; any other is a byte. The word isn't a `&'static [u8]`: a reference has an address, and
+// the definition's rows have none.
+#[derive(Clone, Copy, Debug, PartialEq, Eq)]
+pub struct Row {
+    pub kind: Kind,
+    pub word: [u8; 10],
+    pub least: usize,
+    pub most: usize,
+    pub limits: [u32; 5],
+}

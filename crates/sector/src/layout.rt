@@ -1,7 +1,8 @@
 // The numbers of `specs/Layout`: where each byte of a control sector lies, and the limits.
+// They stay associated constants, a form that the project asks for.
 
 // What every sector has in common.
-#[derive(Clone, Copy)]
+#[derive(Clone, Copy, Debug, PartialEq, Eq)]
 pub struct Sector {}
 
 impl Sector {
@@ -18,8 +19,8 @@ impl Sector {
 }
 
 // Where a control sector's fields and items lie.
-#[derive(Clone, Copy)]
-pub struct Offset {}
+#[derive(Clone, Copy, Debug, PartialEq, Eq)]
+pub(crate) struct Offset {}
 
 impl Offset {
     // The table: N, T and F.
@@ -53,7 +54,8 @@ impl Offset {
 }
 
 // The states of an intentions record.
-#[derive(Clone, Copy)]
+// They stay bytes and no enum: a match on the byte that the volume holds is a form that the project asks for.
+#[derive(Clone, Copy, Debug, PartialEq, Eq)]
 pub struct State {}
 
 impl State {
@@ -65,7 +67,7 @@ impl State {
 }
 
 // The most that there may be: of a volume's sectors, clients and files, of a file's pages and slots, of a record's entries.
-#[derive(Clone, Copy)]
+#[derive(Clone, Copy, Debug, PartialEq, Eq)]
 pub struct Limits {}
 
 impl Limits {
@@ -80,4 +82,19 @@ impl Limits {
     pub const SLOTS: u8 = 240;
 
     pub const ENTRIES: usize = 62;
+}
+
+// A file of the table: its pages and its slots.
+#[derive(Clone, Copy, Debug, PartialEq, Eq)]
+pub struct File {
+    pub pages: u8,
+    pub slots: u8,
+}
+
+// An entry of an intentions record: page `page` of file `file` is in its slot `slot`.
+#[derive(Clone, Copy, Debug, PartialEq, Eq)]
+pub struct Entry {
+    pub file: u8,
+    pub page: u8,
+    pub slot: u8,
 }

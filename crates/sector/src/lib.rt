@@ -4,18 +4,17 @@
 
 mod build;
 mod fresh;
-mod layout;
+pub mod layout;
 mod read;
 mod recognize;
 mod write;
 
 pub use build::{append_entry, load, redo_map, set_holder, set_map_slot, set_state, zeros};
 pub use fresh::{empty_record, new_header, new_table};
-pub use layout::{Limits, Sector, State};
+pub use layout::{Entry, File, Limits, Sector, State};
 pub use read::{
-    entry_file, entry_page, entry_slot, file_header, file_pages, file_slots, header_holder,
-    header_spare, low, map_slot, part, record_count, record_state, table_clients, table_files,
-    table_sectors, wide,
+    entry, file, file_header, header_holder, header_spare, map_slot, part, record_count,
+    record_state, table_clients, table_files, table_sectors,
 };
 pub use recognize::{has_header_mark, has_table_frame, is_header, is_record};
 pub use write::store;

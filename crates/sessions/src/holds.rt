@@ -11,8 +11,7 @@ fn mask(f: u8) -> u16
     requires { (1 ≤ f) × (f ≤ 16) }
     ensures { result ≡ 2 ^ (f - 1) }
 {
-    let i = (f - 1) as u16;
-    1u16 << i
+    1 << (f - 1)
 }
 
 // Whether client k holds file f for reading. Ruled out: another file's bit (`must-fail/files_from_the_top`); the word of
@@ -21,8 +20,7 @@ pub fn is_reading(s: Session, k: u8, f: u8) -> bool
     requires { (1 ≤ k) × (k ≤ 4) × (1 ≤ f) × (f ≤ 16) }
     ensures { result ≡ is_reading s k f }
 {
-    let at = sector::wide(k) - 1;
-    s.reading[at] & mask(f) != 0
+    s.reading[usize::from(k) - 1] & mask(f) != 0
 }
 
 // The session with client k's reading hold of file f. Ruled out: the hold of another file (`must-fail/files_from_the_top`);
@@ -31,28 +29,17 @@ pub fn with_reading(mut s: Session, k: u8, f: u8) -> Session
     requires { (1 ≤ k) × (k ≤ 4) × (1 ≤ f) × (f ≤ 16) }
     ensures { result ≡ with_reading s k f }
 {
-    let at = sector::wide(k) - 1;
-    let m = mask(f);
-    s.reading[at] = s.reading[at] | m;
+    s.reading[usize::from(k) - 1] |= mask(f);
     s
 }
 
-// A word of holds as a number.
-pub fn number_of(word: u16) -> u64
-    ensures { (result ≡ word) × (result < 2 ^ 16) }
-{
-    word as u64
-}
-
-// A number that is 0 just where the session has no reading hold: its four words as one. Most sessions have none, so this
-// is looked at first.
+// A number that is 0 just where the session has no reading hold: its four words as one. Most sessions have none, so this is
+// looked at first. Where they are compared with 0, by `all` or by `==`, the words are taken apart: 35 instructions more in `open`.
 pub fn all_holds(s: Session) -> u64
     ensures { eqb result 0 ≡ every (λ k. eqb (files_read s k) 0) (from 1 4) }
 {
-    number_of(s.reading[0])
-        + 65536 * number_of(s.reading[1])
-        + 4294967296 * number_of(s.reading[2])
-        + 281474976710656 * number_of(s.reading[3])
+    let [a, b, c, d] = s.reading;
+    u64::from(a) + 65536 * u64::from(b) + 4294967296 * u64::from(c) + 281474976710656 * u64::from(d)
 }
 
 // The session without client k's reading hold of file f. Ruled out: the hold of another file ended
@@ -72,12 +59,7 @@ fn cleared(mut s: Session, k: u8, f: u8) -> Session
     requires { (1 ≤ k) × (k ≤ 4) × (1 ≤ f) × (f ≤ 16) }
     ensures { result ≡ without_reading s k f }
 {
-    let at = sector::wide(k) - 1;
-    let m = mask(f);
-    let word = s.reading[at];
-    if word & m != 0 {
-        s.reading[at] = word - m;
-    }
+    s.reading[usize::from(k) - 1] &= !mask(f);
     s
 }
 
@@ -88,20 +70,8 @@ pub fn without_client(s: Session, k: u8) -> Session
     ensures { result ≡ without_reader (set_active s k false) k }
 {
     let mut next = set_active(s, k, false);
-    let at = sector::wide(k) - 1;
-    next.reading[at] = 0;
+    next.reading[usize::from(k) - 1] = 0;
     next
-}
-
-// Whether client j is another than k and holds file f for reading.
-fn reads_beside(s: Session, j: u8, k: u8, f: u8) -> bool
-    requires { (1 ≤ j) × (j ≤ 4) × (1 ≤ f) × (f ≤ 16) }
-    ensures { result ≡ (not (eqb j k) && is_reading s j f) }
-{
-    if j == k {
-        return false;
-    }
-    is_reading(s, j, f)
 }
 
 // Whether another client than k holds file f for reading. Ruled out: the last client not looked at
@@ -113,6 +83,5 @@ pub fn is_read_by_other(s: Session, k: u8, f: u8) -> bool
     if all_holds(s) == 0 {
         return false;
     }
-    let last = reads_beside(s, 3, k, f) | reads_beside(s, 4, k, f);
-    reads_beside(s, 1, k, f) | (reads_beside(s, 2, k, f) | last)
+    (1..5).any(|j| j != k && is_reading(s, j, f))
 }

@@ -3,51 +3,48 @@ ghost use Rattle.std.specs.Prelude.{◌≡◌, not, ◌||◌, ◌≤◌};
 ghost use Rattle.sector.specs.Contents.{Table};
 ghost use Rattle.volume.specs.Views.{View};
 ghost use Rattle.volume.specs.Volumes.{view};
-ghost use Rattle.volume.specs.WellFormed.{WellFormed};
 ghost use Rattle.rules.specs.Sessions.{is_reading, hold_fits, client_holds_fit, holds_fit};
 
-use crate::holds::{all_holds, is_reading, number_of};
+use crate::holds::{all_holds, is_reading};
 use crate::marks::is_active;
 use interface::Session;
+use volume::FormedVolume;
 
 // Whether client k may hold file f for reading: it is marked, and the file exists and has no holder.
-fn hold_fits(v: &[u8], s: Session, k: u8, f: u8) -> bool
-    requires { WellFormed v.now × (1 ≤ k) × (k ≤ 4) × (1 ≤ f) }
-    ensures { result ≡ hold_fits (view v.now) s k f }
+fn hold_fits(v: FormedVolume<'_>, s: Session, k: u8, f: u8) -> bool
+    requires { (1 ≤ k) × (k ≤ 4) × (1 ≤ f) }
+    ensures { result ≡ hold_fits (view v.entry.bytes.now) s k f }
 {
     if !is_active(s, k) {
         return false;
     }
-    if volume::files(v) < f {
+    if v.files() < f {
         return false;
     }
-    volume::holder(v, f) == 0
+    v.holder(f) == 0
 }
 
 // Whether client k doesn't hold file f for reading, or may.
-fn noted_fits(v: &[u8], s: Session, k: u8, f: u8) -> bool
-    requires { WellFormed v.now × (1 ≤ k) × (k ≤ 4) × (1 ≤ f) × (f ≤ 16) }
-    ensures { result ≡ (not (is_reading s k f) || hold_fits (view v.now) s k f) }
+fn noted_fits(v: FormedVolume<'_>, s: Session, k: u8, f: u8) -> bool
+    requires { (1 ≤ k) × (k ≤ 4) × (1 ≤ f) × (f ≤ 16) }
+    ensures { result ≡ (not (is_reading s k f) || hold_fits (view v.entry.bytes.now) s k f) }
 {
-    if is_reading(s, k, f) {
-        return hold_fits(v, s, k, f);
-    }
-    true
+    !is_reading(s, k, f) || hold_fits(v, s, k, f)
 }
 
 // Whether client k may hold for reading every file that it so holds. `left` are the bits of the files from f on.
-fn client_holds_fit(v: &[u8], s: Session, k: u8) -> bool
-    requires { WellFormed v.now × (1 ≤ k) × (k ≤ 4) }
-    ensures { result ≡ client_holds_fit (view v.now) s k }
+// A `while`, since it ends with the last hold: a `for` over 16 files is unrolled, and long. 32 bits, since 16 are shifted slower.
+fn client_holds_fit(v: FormedVolume<'_>, s: Session, k: u8) -> bool
+    requires { (1 ≤ k) × (k ≤ 4) }
+    ensures { result ≡ client_holds_fit (view v.entry.bytes.now) s k }
 {
-    let at = sector::wide(k) - 1;
-    let mut left = number_of(s.reading[at]);
-    let mut f: u8 = 1;
+    let mut left = u32::from(s.reading[usize::from(k) - 1]);
+    let mut f = 1;
     while left != 0 {
         if !noted_fits(v, s, k, f) {
             return false;
         }
-        left = left >> 1;
+        left >>= 1;
         f += 1;
     }
     true
@@ -55,19 +52,8 @@ fn client_holds_fit(v: &[u8], s: Session, k: u8) -> bool
 
 // Whether every client may hold what it holds for reading. Ruled out: a hold of a held file accepted
 // (`must-fail/held_file_accepted`); one client's holds alone looked at (`must-fail/holds_of_client_1`).
-pub fn holds_fit(v: &[u8], s: Session) -> bool
-    requires { WellFormed v.now }
-    ensures { result ≡ holds_fit (view v.now) s }
+pub fn holds_fit(v: FormedVolume<'_>, s: Session) -> bool
+    ensures { result ≡ holds_fit (view v.entry.bytes.now) s }
 {
-    if all_holds(s) == 0 {
-        return true;
-    }
-    let mut k: u8 = 1;
-    while k < 5 {
-        if !client_holds_fit(v, s, k) {
-            return false;
-        }
-        k += 1;
-    }
-    true
+    all_holds(s) == 0 || (1..5).all(|k| client_holds_fit(v, s, k))
 }

@@ -9,8 +9,7 @@ pub fn is_active(s: Session, k: u8) -> bool
     requires { (1 ≤ k) × (k ≤ 4) }
     ensures { result ≡ is_active s k }
 {
-    let at = sector::wide(k) - 1;
-    s.active[at]
+    s.active[usize::from(k) - 1]
 }
 
 // The session with client k marked, or not.
@@ -18,7 +17,6 @@ pub fn set_active(mut s: Session, k: u8, on: bool) -> Session
     requires { (1 ≤ k) × (k ≤ 4) }
     ensures { result ≡ set_active s k on }
 {
-    let at = sector::wide(k) - 1;
-    s.active[at] = on;
+    s.active[usize::from(k) - 1] = on;
     s
 }

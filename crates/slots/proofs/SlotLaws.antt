@@ -4,11 +4,12 @@ use mathlib.Core.Path.{◌≡◌, refl, sym, ap, ◌∙◌}
 use mathlib.Core.Bool.{Bool, true, false, not, ◌&&◌, ◌||◌, and-false, or-false}
 use mathlib.Core.List.{List, [], ◌++◌}
 use mathlib.Core.Option.{Option, none, some}
-use Prim.Native.Nat.{ℕ, ◌<◌, ◌≤◌, zero-le}
+use Prim.Native.Nat.{ℕ, ◌/◌, ◌<◌, ◌≤◌, zero-le}
 use native.Mathlib.Omega.{arith}
 use borrow.Author.Tests.{ltb-true, ltb-false, le-ltb, le-leb, lt-leb}
-use lib.Dec.{leb, ltb}
-use lib.ListN.{get_elem?}
+use lib.Dec.{eqb, leb, ltb}
+use lib.ListN.{get_elem?, length}
+use Rattle.std.proofs.Math.ListN.{length-set}
 use Rattle.lists.specs.Lists.{any, filter, member, from}
 use Rattle.sector.specs.Contents.{Entry}
 use Rattle.sector.specs.Entries.{gives_slot}
@@ -17,10 +18,12 @@ use Rattle.lists.proofs.SearchLaws.{none_some, first_append, filter_both, filter
 use Rattle.lists.proofs.TestLaws.{not_or}
 use Rattle.volume.specs.Places.{file_at}
 use Rattle.volume.specs.Views.{View}
-use Rattle.byteset.specs.Set.{no_bytes, has_byte, passes_over, LowestFailing}
-use Rattle.byteset.proofs.SetLaws.{has_none}
+use Rattle.byteset.specs.Set.{no_bytes, has_byte, with_byte, passes_over, LowestFailing}
+use Rattle.byteset.proofs.SetLaws.{has_none, has_with}
 use Rattle.rules.specs.Plans.{is_free, free_slots, start_for, tried_from}
-use Rattle.slots.specs.Slots.{entry_slot}
+use Rattle.slots.specs.Slots.{slot_of, entry_slot}
+use Rattle.std.specs.Prelude as code
+use Rattle.std.specs.Prelude.{Some, None, IfSome, unwrap_or}
 
 -- ------------------------------------------------------------------ the entry that was found
 pub no_entry_lem : (o : Option Entry) → none ≡ entry_slot o → o ≡ none
@@ -39,6 +42,15 @@ unfolding entry_slot
 entry_at none r e = none_some r (sym e)
 entry_at (some x) r e = record { entry = x; found = refl; slot = cc }
 
+-- ------------------------------------------------------------------ the slots taken
+-- A slot more, in a set that holds any byte.
+pub one_more : (s t : List ℕ) (x : ℕ) → length s ≡ 4 → x < 256 → t ≡ with_byte s x → (y : ℕ) → has_byte t y ≡ (eqb y x || has_byte s y)
+one_more s t x l b e y = let room : x / 64 < length s = omega arith in rw e (has_with s x y room)
+
+pub one_more_length : (s t : List ℕ) (x : ℕ) → length s ≡ 4 → t ≡ with_byte s x → length t ≡ 4
+unfolding with_byte
+one_more_length s t x l e = rw e (simp length-set l)
+
 -- ------------------------------------------------------------------ the free slots
 -- A slot from `start` on that is not in the set is one that the search doesn't pass over.
 from_start : (start y : ℕ) (s : List ℕ) → (leb start y && not (has_byte s y)) ≡ not (passes_over start s y)
@@ -53,12 +65,10 @@ from_start start y s = go (has_byte s y) (ltb y start) refl
 from_zero : (y : ℕ) (s : List ℕ) → passes_over 0 s y ≡ has_byte s y
 from_zero y s = rw (le-ltb y 0 zero-le) (or-false (has_byte s y))
 
--- Where the set s has the slots of the map, and t those that are given too, the slots that are not in t are free. r is what a
--- search from `start` on finds of them, and q one from 0 on.
+-- Where the set s has the slots of the map, and t those that are given too, the slots that are not in t are free.
 module _ (a : View) (k f : ℕ) (s t : List ℕ) (mapped : (y : ℕ) → has_byte s y ≡ (has_byte no_bytes y || member y (a.headers f).map))
     (given : (y : ℕ) → has_byte t y ≡ (has_byte s y || any (gives_slot f y) (a.records k).entries))
-    (p start n r : ℕ) (size : n ≡ (file_at a.table f).slots) (begins : start ≡ start_for a f p)
-    (high : LowestFailing (passes_over start t) n r) where
+    (p start n : ℕ) (size : n ≡ (file_at a.table f).slots) (begins : start ≡ start_for a f p) where
   -- The slots tried, as the numbers that pass these tests.
   abbrev up : ℕ → Bool
   up y = leb start y && not (has_byte t y)
@@ -77,23 +87,33 @@ module _ (a : View) (k f : ℕ) (s t : List ℕ) (mapped : (y : ℕ) → has_byt
   are_tried = rw (← begins, ← are_free)
       (λ i. filter_both (leb start) (λ y. not (has_byte t y)) (from 0 n) i ++ filter_both (λ y. ltb y start) (λ y. not (has_byte t y)) (from 0 n) i)
 
-  pub free_above : r < n → some r ≡ get_elem? (tried_from (start_for a f p) (free_slots a k f)) 0
-  free_above h = sym (rw are_tried (first_append (filter up (from 0 n)) (filter down (from 0 n)) r
+  -- A search from `start` on finds r.
+  free_above : (r : ℕ) → LowestFailing (passes_over start t) n r → r < n → some r ≡ get_elem? (tried_from (start_for a f p) (free_slots a k f)) 0
+  free_above r high h = sym (rw are_tried (first_append (filter up (from 0 n)) (filter down (from 0 n)) r
       (filter_first up n 0 r (omega arith) (omega arith) (λ y lo hi. from_start start y t ∙ ap not (high.1 y hi))
       (from_start start r t ∙ ap not (high.2 h)))))
 
-  module _ (q : ℕ) (low : LowestFailing (passes_over 0 t) n q) (end : n ≤ r) where
+  -- It finds none, and q is what one from 0 on finds.
+  module _ (q : ℕ) (high : LowestFailing (passes_over start t) n n) (low : LowestFailing (passes_over 0 t) n q) where
     none_above : filter up (from 0 n) ≡ []
     none_above = filter_none up n 0 (λ y lo hi. from_start start y t ∙ ap not (high.1 y (omega arith)))
 
-    taken : (y : ℕ) → y < q → down y ≡ false
-    taken y h = rw (sym (from_zero y t) ∙ low.1 y h) (and-false (ltb y start))
+    passed : (y : ℕ) → y < q → down y ≡ false
+    passed y h = rw (sym (from_zero y t) ∙ low.1 y h) (and-false (ltb y start))
 
-    pub free_again : q < n → some q ≡ get_elem? (tried_from (start_for a f p) (free_slots a k f)) 0
+    free_again : q < n → some q ≡ get_elem? (tried_from (start_for a f p) (free_slots a k f)) 0
     free_again h =
         let free : has_byte t q ≡ false = sym (from_zero q t) ∙ low.2 h in
         let before : ltb q start ≡ true = or_right (has_byte t q) (ltb q start) (high.1 q (omega arith)) free in
-        sym (rw (are_tried, none_above) (filter_first down n 0 q (omega arith) (omega arith) (λ y lo hi. taken y hi) (rw (before, free))))
+        sym (rw (are_tried, none_above) (filter_first down n 0 q (omega arith) (omega arith) (λ y lo hi. passed y hi) (rw (before, free))))
 
-    pub free_none : n ≤ q → none ≡ get_elem? (tried_from (start_for a f p) (free_slots a k f)) 0
-    free_none h = rw (are_tried, none_above, filter_none down n 0 (λ y lo hi. taken y (omega arith)))
+    free_none : n ≤ q → none ≡ get_elem? (tried_from (start_for a f p) (free_slots a k f)) 0
+    free_none h = rw (are_tried, none_above, filter_none down n 0 (λ y lo hi. passed y (omega arith)))
+
+  -- What a search from `start` on finds, and where it finds none, what one from 0 on finds.
+  pub free_found : (o last : code.Option ℕ) → LowestFailing (passes_over start t) n (unwrap_or o n) → IfSome o (λ r. r < n)
+      → (o ≡ None → LowestFailing (passes_over 0 t) n (unwrap_or last n)) → (o ≡ None → IfSome last (λ q. q < n))
+      → ((r : ℕ) → o ≡ Some r → last ≡ Some r) → slot_of last ≡ get_elem? (tried_from (start_for a f p) (free_slots a k f)) 0
+  free_found (Some r) last high h low b same = rw (same r refl) (free_above r high h)
+  free_found None (Some q) high h low b same = free_again q high (low refl) (b refl)
+  free_found None None high h low b same = free_none n high (low refl) (omega arith)

@@ -16,76 +16,60 @@ ghost use Rattle.rules.specs.Plans.{entry_for, free_slots, start_for, tried_from
 ghost use Rattle.rules.specs.Content.{decided_slot};
 ghost use Rattle.slots.specs.Slots.{slot_of, entry_slot};
 
-use byteset::{add, lowest_missing};
+use byteset::BitSet;
 use sector::State;
-
-// What a search for a slot found.
-#[derive(Clone, Copy)]
-pub enum Found {
-    Slot(u8),
-    Nothing,
-}
+use volume::{FormedVolume, SoundVolume};
 
 // Whether the entry with index i is for page p of file f.
-fn is_for_page(v: &[u8], k: u8, i: usize, f: u8, p: u8) -> bool
-    requires { WellFormed v.now × HasEntry (view v.now) k i }
-    ensures { result ≡ for_page f p (get_or ((view v.now).records k).entries i no_entry) }
+fn is_for_page(v: FormedVolume<'_>, k: u8, i: usize, f: u8, p: u8) -> bool
+    requires { HasEntry (view v.bytes.now) k i }
+    ensures { result ≡ for_page f p (get_or ((view v.entry.bytes.now).records k).entries i no_entry) }
 {
-    if volume::entry_file(v, k, i) != f {
-        return false;
-    }
-    volume::entry_page(v, k, i) == p
+    let e = v.entry(k, i);
+    e.file == f && e.page == p
 }
 
 // The slot that record k has for page p of file f.
-pub fn find_entry(v: &[u8], k: u8, f: u8, p: u8) -> Found
-    requires { WellFormed v.now × IsClient (view v.now).table k }
-    ensures { slot_of result ≡ entry_slot (entry_for (view v.now) k f p) }
+pub fn find_entry(v: FormedVolume<'_>, k: u8, f: u8, p: u8) -> Option<u8>
+    requires { IsClient (view v.bytes.now).table k }
+    ensures { slot_of result ≡ entry_slot (entry_for (view v.entry.bytes.now) k f p) }
 {
-    let n = sector::wide(volume::entry_count(v, k));
-    let mut i = 0;
-    while i < n {
+    for i in 0..usize::from(v.entry_count(k)) {
         if is_for_page(v, k, i, f, p) {
-            return Found::Slot(volume::entry_slot(v, k, i));
+            return Some(v.entry(k, i).slot);
         }
-        i += 1;
     }
-    Found::Nothing
+    None
 }
 
 // Takes the slots in the map of file f.
-fn take_mapped(v: &[u8], f: u8, taken: &mut [u64; 4])
-    requires { WellFormed v.now × IsFile (view v.now).table f × (length taken.old ≡ 4) }
-    ensures { ((y : ℕ) → has_byte taken.new y ≡ (has_byte taken.old y || member y ((view v.now).headers f).map)) × (length taken.new ≡ 4) }
+fn take_mapped(v: FormedVolume<'_>, f: u8, taken: &mut BitSet<4>)
+    requires { IsFile (view v.bytes.now).table f }
+    ensures { (y : ℕ) → has_byte taken.new.words y ≡ (has_byte taken.old.words y || member y ((view v.entry.bytes.now).headers f).map) }
 {
-    let n = volume::pages(v, f);
-    let mut p: u8 = 0;
-    while p < n {
-        add(taken, volume::mapped_slot(v, f, p));
-        p += 1;
+    for p in 0..v.file(f).pages {
+        taken.insert(usize::from(v.mapped_slot(f, p)));
     }
 }
 
 // Takes the slot that the entry with index i gives for file f, if it does.
-fn take_entry(v: &[u8], k: u8, i: usize, f: u8, taken: &mut [u64; 4])
-    requires { WellFormed v.now × HasEntry (view v.now) k i × (length taken.old ≡ 4) }
-    ensures { ((y : ℕ) → has_byte taken.new y ≡ (gives_slot f y (get_or ((view v.now).records k).entries i no_entry) || has_byte taken.old y)) × (length taken.new ≡ 4) }
+fn take_entry(v: FormedVolume<'_>, k: u8, i: usize, f: u8, taken: &mut BitSet<4>)
+    requires { HasEntry (view v.bytes.now) k i }
+    ensures { (y : ℕ) → has_byte taken.new.words y ≡ (gives_slot f y (get_or ((view v.entry.bytes.now).records k).entries i no_entry) || has_byte taken.old.words y) }
 {
-    if volume::entry_file(v, k, i) == f {
-        add(taken, volume::entry_slot(v, k, i));
+    let e = v.entry(k, i);
+    if e.file == f {
+        taken.insert(usize::from(e.slot));
     }
 }
 
 // Takes the slots that record k gives for file f.
-fn take_given(v: &[u8], k: u8, f: u8, taken: &mut [u64; 4])
-    requires { WellFormed v.now × IsClient (view v.now).table k × (length taken.old ≡ 4) }
-    ensures { ((y : ℕ) → has_byte taken.new y ≡ (has_byte taken.old y || any (gives_slot f y) ((view v.now).records k).entries)) × (length taken.new ≡ 4) }
+fn take_given(v: FormedVolume<'_>, k: u8, f: u8, taken: &mut BitSet<4>)
+    requires { IsClient (view v.bytes.now).table k }
+    ensures { (y : ℕ) → has_byte taken.new.words y ≡ (has_byte taken.old.words y || any (gives_slot f y) ((view v.entry.bytes.now).records k).entries) }
 {
-    let n = sector::wide(volume::entry_count(v, k));
-    let mut i = 0;
-    while i < n {
+    for i in 0..usize::from(v.entry_count(k)) {
         take_entry(v, k, i, f, taken);
-        i += 1;
     }
 }
 
@@ -93,52 +77,46 @@ fn take_given(v: &[u8], k: u8, f: u8, taken: &mut [u64; 4])
 // again after the last, that is neither in the map nor given for f in record k. Ruled out: a choice by the map alone, so that
 // two pages of one transaction share a slot (`must-fail/free_by_map_alone`); the lowest free slot, another start, or no going
 // round (`must-fail/lowest_slot`, `two_above`, `above_another_page`, `not_round`).
-pub fn free_slot(v: &[u8], k: u8, f: u8, p: u8) -> Found
-    requires { WellFormed v.now × IsClient (view v.now).table k × IsPage (view v.now).table f p }
-    ensures { slot_of result ≡ get_elem? (tried_from (start_for (view v.now) f p) (free_slots (view v.now) k f)) 0 }
+pub fn free_slot(v: FormedVolume<'_>, k: u8, f: u8, p: u8) -> Option<u8>
+    requires { IsClient (view v.bytes.now).table k × IsPage (view v.bytes.now).table f p }
+    ensures { slot_of result ≡ get_elem? (tried_from (start_for (view v.entry.bytes.now) f p) (free_slots (view v.entry.bytes.now) k f)) 0 }
 {
-    let mut taken = [0u64; 4];
+    let mut taken = BitSet::new();
     take_mapped(v, f, &mut taken);
     take_given(v, k, f, &mut taken);
-    let n = volume::slots(v, f);
-    let start = sector::wide(volume::mapped_slot(v, f, p)) + 1;
-    let above = lowest_missing(&taken, start, n);
-    if above < n {
-        return Found::Slot(above);
-    }
-    let again = lowest_missing(&taken, 0, n);
-    if again < n {
-        return Found::Slot(again);
-    }
-    Found::Nothing
+    let n = v.file(f).slots;
+    let start = usize::from(v.mapped_slot(f, p)) + 1;
+    taken
+        .lowest_missing(start, n)
+        .or_else(|| taken.lowest_missing(0, n))
 }
 
 // The slot that a read of page p of file f by client k takes. Ruled out: the map's slot where the record has the page
 // (`must-fail/read_by_map_alone`).
-pub fn read_slot(v: &[u8], k: u8, f: u8, p: u8) -> u8
-    requires { WellFormed v.now × IsClient (view v.now).table k × IsPage (view v.now).table f p }
-    ensures { result ≡ slot_for (view v.now) f p (entry_for (view v.now) k f p) }
+pub fn read_slot(v: FormedVolume<'_>, k: u8, f: u8, p: u8) -> u8
+    requires { IsClient (view v.bytes.now).table k × IsPage (view v.bytes.now).table f p }
+    ensures { result ≡ slot_for (view v.entry.bytes.now) f p (entry_for (view v.entry.bytes.now) k f p) }
 {
-    let found = find_entry(v, k, f, p);
-    match found {
-        Found::Slot(r) => r,
-        Found::Nothing => volume::mapped_slot(v, f, p),
+    match find_entry(v, k, f, p) {
+        Some(r) => r,
+        None => v.mapped_slot(f, p),
     }
 }
 
 // The slot that a look at page p of file f takes: the one that its holder's record has for the page, if that is decided, else
 // by the map. Ruled out: the map alone (`must-fail/look_by_map_alone`); the entries of a record that is only open
 // (`must-fail/look_into_an_open_record`), or of one that the header doesn't name (`rules/must-fail/look_into_another_record`).
-pub fn decided_slot(v: &[u8], f: u8, p: u8) -> u8
-    requires { (sound v.now ≡ true) × IsPage (view v.now).table f p }
-    ensures { result ≡ decided_slot (view v.now) f p }
+pub fn decided_slot(v: SoundVolume<'_>, f: u8, p: u8) -> u8
+    requires { IsPage (view v.bytes.now).table f p }
+    ensures { result ≡ decided_slot (view v.entry.bytes.now) f p }
 {
-    let k = volume::holder(v, f);
+    let v = v.formed();
+    let k = v.holder(f);
     if k == 0 {
-        return volume::mapped_slot(v, f, p);
+        return v.mapped_slot(f, p);
     }
-    if volume::state(v, k) != State::DECIDED {
-        return volume::mapped_slot(v, f, p);
+    if v.state(k) != State::DECIDED {
+        return v.mapped_slot(f, p);
     }
     read_slot(v, k, f, p)
 }

@@ -2,20 +2,17 @@
 // zero, by the bytes of the record and then of the header. It takes no input.
 #![tactic(auto)]
 
-use enumeration::{AdvanceOutcome, Small};
+use enumeration::Small;
 use std::io;
 
 // The array is advanced from volume to volume, and each is written.
 fn write_volumes(rt: &impl Print, v: &mut [u8]) -> io::Result<()> {
     let mut at = 0;
-    loop {
-        let advanced = enumeration::advance(v, at);
-        let AdvanceOutcome::To(n) = advanced else {
-            return Ok(());
-        };
+    while let Ok(Some(n)) = enumeration::advance(v, at) {
         console::write(rt, v)?;
         at = n;
     }
+    Ok(())
 }
 
 fn main(rt: HostRuntime) -> io::Result<()> {

@@ -60,9 +60,8 @@ module _ (v tb : Bytes) (ok : table_sound tb ≡ true) (sized : length v ≡ 256
   records_inside = omega (arith, end_low t, clients_are tb, ends, sized)
 
   -- With the records tested too, all that the tests of the headers ask for.
-  pub tested : length tb ≡ 256 → every (record_sound_in t v) (from 1 (clients_in tb)) ≡ true → Tested v tb
-  tested len e = record {
-    whole = len;
+  pub tested : every (record_sound_in t v) (from 1 (clients_in tb)) ≡ true → Tested v tb
+  tested e = record {
     clients = few_clients;
     files = few_files tb ok;
     short = omega (arith, (facts tb ok).size, sectors_are tb, sized);

@@ -4,19 +4,19 @@
 // which `sector` says, and its numbers.
 #![tactic(auto)]
 
-ghost use Rattle.std.specs.Prelude.{◌≡◌, true, ◌+◌, ◌*◌, ◌≤◌, length};
+ghost use Rattle.std.specs.Prelude.{◌≡◌, true, ◌+◌, ◌*◌, ◌≤◌, length, is_some, IfSome};
 ghost use Rattle.lists.specs.Lists.{every, from};
 ghost use Rattle.sector.specs.Decoding.{file_count_in, decode_table};
 ghost use Rattle.volume.specs.Sound.{sound, table_sound_in};
 ghost use Rattle.table_test.specs.Table.{table_sound};
 ghost use Rattle.record_test.specs.Record.{record_sound_in};
 ghost use Rattle.header_test.specs.Header.{header_sound};
-ghost use Rattle.header_test.specs.Tested.{Tested};
 
-use header_test::header_is_sound;
+use header_test::TestedVolume;
 use record_test::record_is_sound;
-use sector::{Sector, part, table_clients, table_files, table_sectors, wide};
+use sector::{Sector, part, table_clients, table_files, table_sectors};
 use table_test::table_is_sound;
+use volume::{SoundVolume, TabledVolume};
 
 // Whether `v`, of any length, is a sound volume. Ruled out: `true` where a byte after the last entry of a record is not
 // zero (`sector/must-fail/tail_not_tested`); `false` because of what a slot or a later sector holds.
@@ -27,10 +27,22 @@ pub fn is_sound(v: &[u8]) -> bool
         return false;
     }
     let table = part(v, 0);
-    if !records_are_sound(v, table, wide(table_clients(table))) {
+    if !records_are_sound(v, table, usize::from(table_clients(table))) {
         return false;
     }
-    headers_are_sound(v, table, wide(table_files(table)))
+    headers_are_sound(&TestedVolume { v, table })
+}
+
+// The same, as a volume that is known to be sound. Ruled out: one found where the test fails; nothing found where it holds
+// (`must-fail/never_found`).
+pub fn sound_volume(v: &[u8]) -> Option<SoundVolume<'_>>
+    ensures found { is_some result ≡ sound v.now }
+    ensures same { IfSome result (λ w. w.bytes.now ≡ v.now) }
+{
+    if is_sound(v) {
+        return Some(SoundVolume { bytes: v });
+    }
+    None
 }
 
 // Whether the length of `v` and its sector 0 are those of a sound volume. Ruled out: `true` for an array that is longer than its
@@ -48,32 +60,39 @@ pub fn table_is_sound_in(v: &[u8]) -> bool
     v.len() == Sector::SIZE * table_sectors(table)
 }
 
+// The same, as a volume whose length and table are known to be sound. Ruled out: nothing found because of what another sector
+// holds (`must-fail/found_only_if_sound`).
+pub fn tabled_volume(v: &[u8]) -> Option<TabledVolume<'_>>
+    ensures found { is_some result ≡ table_sound_in v.now }
+    ensures same { IfSome result (λ w. w.bytes.now ≡ v.now) }
+{
+    if table_is_sound_in(v) {
+        return Some(TabledVolume { bytes: v });
+    }
+    None
+}
+
 // Whether the records of clients 1 to `n` are sound.
-fn records_are_sound(v: &[u8], table: &[u8], n: usize) -> bool
-    requires { (length table.now ≡ 256) × (table_sound table.now ≡ true) × (n ≤ 4) × (256 * n + 256 ≤ length v.now) }
+fn records_are_sound(v: &[u8], table: &[u8; 256], n: usize) -> bool
+    requires { (table_sound table.now ≡ true) × (n ≤ 4) × (256 * n + 256 ≤ length v.now) }
     ensures { result ≡ every (record_sound_in (decode_table table.now) v.now) (from 1 n) }
 {
-    let mut k = 1;
-    while k <= n {
+    for k in 1..=n {
         if !record_is_sound(table, part(v, k)) {
             return false;
         }
-        k += 1;
     }
     true
 }
 
-// Whether the headers of all `n` files are sound.
-fn headers_are_sound(v: &[u8], table: &[u8], n: usize) -> bool
-    requires { (Tested v.now table.now) × (n ≡ file_count_in table.now) }
-    ensures { result ≡ every (header_sound (decode_table table.now) v.now) (from 1 n) }
+// Whether the headers of all files are sound.
+fn headers_are_sound(w: &TestedVolume<'_>) -> bool
+    ensures { result ≡ every (header_sound (decode_table w.now.table.now) w.now.v.now) (from 1 (file_count_in w.now.table.now)) }
 {
-    let mut f = 1;
-    while f <= n {
-        if !header_is_sound(v, table, f) {
+    for f in 1..=table_files(w.table) {
+        if !w.header_is_sound(f) {
             return false;
         }
-        f += 1;
     }
     true
 }

@@ -1,11 +1,10 @@
--- Updates made by a run. What a function makes adds up with what was made before it, by one law, crashed or not; after updates
--- that were all made a well-formed volume is well formed, and its view is the view with them made.
-use borrow.Author.Tests.{not-true}
+-- Updates made by a run. What a function makes adds up with what was made before it, up to a crash; after updates that were all
+-- made a well-formed volume is well formed, and its view is the view with them made.
 use mathlib.Core.Path.{◌≡◌, refl, sym, ap, ◌∙◌}
-use mathlib.Core.Bool.{true, false, not}
 use mathlib.Core.List.{List, [], ◌∷◌, ◌++◌}
-use Rattle.lists.proofs.ListLaws.{no_both, and_left}
-use Rattle.lists.proofs.CaseLaws.{by_test}
+use Rattle.std.specs.Prelude.{Result, Ok, Err, OnOk}
+use Rattle.std.specs.Result.{IsErrAnd}
+use Rattle.std.proofs.lemmas.Result.{err_from_is_err_and}
 use Rattle.volume.specs.Views.{View, Update}
 use Rattle.volume.specs.Volumes.{Volume, view}
 use Rattle.volume.specs.Stores.{cut_at, updated, all_stores}
@@ -15,76 +14,61 @@ use Rattle.volume.proofs.StoreLaws.{stores_append}
 use Rattle.volume.proofs.AlongLaws.{changed_table}
 use Rattle.volume.proofs.WellFormedLaws.{formed_view, formed_cut}
 use Rattle.stores.specs.declared.Run.{Run}
-use Rattle.stores.specs.Runs.{goes_on, counted, stores_made, UpdatesMade, AllMade}
-use Rattle.stores.proofs.RunLaws.{run_append, run_crashed, run_all}
+use Rattle.stores.specs.declared.Crashed.{Crashed}
+use Rattle.stores.specs.Runs.{counted, stores_made, UpdatesMade, AllMade}
+use Rattle.stores.proofs.RunLaws.{run_one, run_append, run_all}
 
 -- ------------------------------------------------------------------ all made
 pub all_table : {v w : Volume} (xs : List Update) → AllMade v xs w → (view w).table ≡ (view v).table
 all_table {v} xs m = ap (λ (a : View). a.table) m.seen ∙ changed_table xs (view v)
 
-pub all_none : {v w : Volume} {r q : Run} → WellFormed v → UpdatesMade v r [] w q → AllMade v [] w
+pub all_none : {v w : Volume} {r : Run} {q : Result Run Crashed} → WellFormed v → UpdatesMade v (Ok r) [] w q → AllMade v [] w
 unfolding all_stores stores_made
 all_none formed m =
-    let e = ap (λ (p : Volume × Run). p.0) m.stores in
+    let e = ap (λ (p : Volume × Result Run Crashed). p.0) m.stores in
     record { formed = rw e formed; seen = ap view e }
 
 -- One update that has its place.
-pub all_one : {v w : Volume} {r q : Run} (x : Update) → WellFormed v → Placed (view v).table x
-    → UpdatesMade v r (x ∷ []) w q → q.crashed ≡ false → AllMade v (x ∷ []) w
+pub all_one : {v w : Volume} {r : Run} {q : Result Run Crashed} (x : Update) → WellFormed v → Placed (view v).table x
+    → UpdatesMade v (Ok r) (x ∷ []) w q → OnOk q (AllMade v (x ∷ []) w)
 unfolding all_stores cut_at
-all_one {v} {w} {r} x formed placed m c =
-    let e : w ≡ updated (view v).table v x = run_all _ v r m.stores c in
+all_one {q = Err c} x formed placed m = tt
+all_one {v} {w} {r} {q = Ok q} x formed placed m =
+    let e : w ≡ updated (view v).table v x = run_all _ v (Ok r) m.stores in
     record {
       formed = rw e (formed_cut v formed (x ∷ []) (placed, tt) 1);
       seen = ap view e ∙ formed_view v formed (x ∷ []) (placed, tt) 1;
     }
 
 -- ------------------------------------------------------------------ none and one
-pub made_none : {v : Volume} {r : Run} → UpdatesMade v r [] v r
+pub made_none : {v : Volume} {r : Run} → UpdatesMade v (Ok r) [] v (Ok r)
 unfolding all_stores stores_made
 made_none = record { stores = refl }
 
 -- One update, by the run that was to make it.
-module _ (r : Run) {q : Run} (e : q ≡ counted r) where
-  going_is : not q.crashed ≡ goes_on r
-  going_is = by_test (goes_on r) (λ g. rw (e, g)) (λ g. rw (e, g))
+module _ {v : Volume} (r : Run) {x : Update} where
+  pub put_made : {w : Volume} {q : Run} → Ok q ≡ counted r → w ≡ updated (view v).table v x → UpdatesMade v (Ok r) (x ∷ []) w (Ok q)
+  unfolding all_stores stores_made
+  put_made e s = record { stores = rw s (sym (run_one r v _ [] (sym e))) }
 
-  pub put_going : not q.crashed ≡ true → r.crashed ≡ false
-  put_going c = not-true _ (and_left (not r.crashed) _ (sym going_is ∙ c))
-
-  module _ {v : Volume} {x : Update} where
-    pub put_made : {w : Volume} → not q.crashed ≡ true → w ≡ updated (view v).table v x → UpdatesMade v r (x ∷ []) w q
-    unfolding all_stores stores_made
-    put_made c s = let g : goes_on r ≡ true = sym going_is ∙ c in record { stores = rw (s, e, g) }
-
-    pub put_short : not q.crashed ≡ false → UpdatesMade v r (x ∷ []) v q
-    unfolding all_stores stores_made
-    put_short c = let g : goes_on r ≡ false = sym going_is ∙ c in record { stores = rw (e, g) }
-
--- ------------------------------------------------------------------ a crash
--- A run that has crashed makes no update.
-pub made_crashed : {v : Volume} {r : Run} {xs : List Update} → r.crashed ≡ true → UpdatesMade v r xs v r
-made_crashed {v} {xs = xs} c = record { stores = sym (run_crashed (all_stores (view v).table xs) c) }
-
-module _ {v w : Volume} {r q : Run} {xs : List Update} where
-  pub made_going : UpdatesMade v r xs w q → q.crashed ≡ false → r.crashed ≡ false
-  made_going m c = by_test r.crashed
-      (λ e. no_both q.crashed (ap (λ (p : Volume × Run). p.1.crashed) (m.stores ∙ run_crashed (all_stores (view v).table xs) e) ∙ e) c) (λ e. e)
-
-  -- So it doesn't matter which ones it was to make.
-  pub made_same : {ys : List Update} → (r.crashed ≡ false → xs ≡ ys) → UpdatesMade v r xs w q → UpdatesMade v r ys w q
-  made_same {ys} same m = by_test r.crashed
-      (λ e. record { stores = m.stores ∙ run_crashed (all_stores (view v).table xs) e ∙ sym (run_crashed (all_stores (view v).table ys) e) })
-      (λ e. rw (same e) at m)
+  pub put_short : {q : Result Run Crashed} {c : Crashed} → IsErrAnd q (λ d. d ≡ c) → Err c ≡ counted r → UpdatesMade v (Ok r) (x ∷ []) v q
+  unfolding all_stores stores_made
+  put_short {q} i e = let p = err_from_is_err_and q i in rw (p.1, p.2) (record { stores = sym (run_one r v _ [] (sym e)) })
 
 -- ------------------------------------------------------------------ one after the other
-pub made_more : {v w u : Volume} {r q z : Run} {xs ys : List Update} → (q.crashed ≡ false → (view w).table ≡ (view v).table)
-    → UpdatesMade v r xs w q → UpdatesMade w q ys u z → UpdatesMade v r (xs ++ ys) u z
-made_more {v} {w} {u} {r} {q} {z} {xs} {ys} same m n =
-    let t = (view v).table in
-    let first : stores_made (v, r) (all_stores t (xs ++ ys)) ≡ stores_made (w, q) (all_stores t ys)
-    = ap (stores_made (v, r)) (stores_append t xs ys) ∙ run_append (all_stores t xs) (all_stores t ys) (v, r)
-    ∙ ap (λ (p : Volume × Run). stores_made p (all_stores t ys)) (sym m.stores) in
-    let after : stores_made (w, q) (all_stores (view w).table ys) ≡ stores_made (w, q) (all_stores t ys)
-    = by_test q.crashed (λ c. run_crashed (all_stores (view w).table ys) c ∙ sym (run_crashed (all_stores t ys) c)) (λ c. rw (same c)) in
-    record { stores = n.stores ∙ after ∙ sym first }
+module _ {v w : Volume} {r q : Result Run Crashed} {xs : List Update} (m : UpdatesMade v r xs w q) where
+  first : (ys : List Update) → stores_made v r (all_stores (view v).table (xs ++ ys)) ≡ stores_made w q (all_stores (view v).table ys)
+  first ys =
+      let t = (view v).table in
+      ap (stores_made v r) (stores_append t xs ys) ∙ run_append (all_stores t xs) (all_stores t ys) v r
+      ∙ ap (λ (p : Volume × Result Run Crashed). stores_made p.0 p.1 (all_stores t ys)) (sym m.stores)
+
+  pub made_more : {u : Volume} {z : Result Run Crashed} {ys : List Update} → (view w).table ≡ (view v).table
+      → UpdatesMade w q ys u z → UpdatesMade v r (xs ++ ys) u z
+  made_more {ys = ys} same n = record { stores = rw same at n.stores ∙ sym (first ys) }
+
+-- A crash that goes up by `?`: what was to come isn't made.
+pub made_cut : {v w : Volume} {r q : Result Run Crashed} {c : Crashed} {xs : List Update} (ys : List Update)
+    → IsErrAnd q (λ d. d ≡ c) → UpdatesMade v r xs w (Err c) → UpdatesMade v r (xs ++ ys) w q
+unfolding stores_made
+made_cut {q = q} ys i m = let p = err_from_is_err_and q i in rw (p.1, p.2) (record { stores = sym (first m ys) })

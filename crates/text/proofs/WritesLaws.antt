@@ -1,26 +1,23 @@
--- Bytes written one after the other: behind others, byte by byte from a text, and as a number's digits. What is written behind
--- is written as one, by the bytes of the first; a number's digits by how many there are.
+-- Bytes written one after the other: a text over a part that was lent, and behind others, where both are written as one. And how many
+-- digits a number has.
 use mathlib.Core.Path.{◌≡◌, refl, sym, ◌∙◌}
 use mathlib.Core.Bool.{Bool, true, false}
-use mathlib.Core.List.{[], ◌∷◌, ◌++◌}
-use Prim.Native.Nat.{ℕ, suc, ◌+◌, ◌/◌, ◌%◌, ◌≤◌, ◌<◌}
+use mathlib.Core.List.{[], ◌∷◌, ◌++◌, append_assoc}
+use Prim.Native.Nat.{ℕ, ◌+◌, ◌-◌, ◌/◌, ◌%◌, ◌≤◌, ◌<◌}
 use native.Mathlib.Nat.{zero-add}
-use native.Mathlib.Numerals.{add-one}
 use native.Mathlib.Omega.{arith}
-use borrow.Author.Tests.{lt-ltb, le-ltb}
+use borrow.Author.Tests.{lt-ltb}
 use lib.Dec.{ltb}
-use lib.ListN.{length, set, length-append, drop, get_or}
-use lib.Seq.{sets-eq, sets, drop-cons}
+use lib.ListN.{length, take, length-append}
+use borrow.Rule.Slice.PartMut.{put_mid}
+use lib.Seq.{sets-eq, drop-drop}
 use Rattle.lists.specs.Lists.{when◌then◌else◌}
 use Rattle.lists.proofs.ListLaws.{sets_append}
 use Rattle.sector.specs.Contents.{Bytes}
 use Rattle.volume.specs.Listing.{digit, decimal}
 use Rattle.text.specs.Writes.{Wrote, at_front}
 
-pub wrote_none : (b : Bytes) (at : ℕ) → Wrote b at [] b at
-wrote_none b at = record { bytes = refl; next = omega arith }
-
--- Then e is written behind d.
+-- e is written behind d.
 pub wrote_more : {b c f d e : Bytes} {at n m : ℕ} → Wrote b at d c n → Wrote c n e f m → Wrote b at (d ++ e) f m
 wrote_more {b} {c} {f} {d} {e} {at} x y = record {
   bytes = y.bytes ∙ rw (x.bytes, x.next) (sym (sets_append d e b at));
@@ -33,26 +30,17 @@ wrote_front {b} {c} {t} w h =
     let fits : 0 + length t ≤ length b = omega arith in
     (w.bytes ∙ sets-eq t b 0 fits ∙ rw (zero-add (length t)), w.next ∙ zero-add (length t))
 
--- One byte of a text, which is the first of those from i on.
-pub put_turn : (t b : Bytes) (at i : ℕ) → i < length t
-    → sets (set b (at + i) (get_or t i 0)) (at + (i + 1)) (drop (i + 1) t) ≡ sets b (at + i) (drop i t)
-put_turn t b at i h =
-    let e : at + (i + 1) ≡ suc (at + i) = omega arith in
-    rw (e, add-one i, drop-cons t i 0 h)
+-- A part that is as long as the text was lent, and came back as the text.
+pub wrote_part : {b t x : Bytes} {at : ℕ} → x ≡ t → at + length t ≤ length b → Wrote b at t (put_mid at (at + length t - at) b x) (at + length t)
+wrote_part {b} {t} {x} {at} e fits =
+    let n : at + length t - at ≡ length t = omega arith in
+    record { bytes = rw (n, e, drop-drop) (sym (sets-eq t b at fits ∙ append_assoc (take at b) t _)); next = refl }
 
 -- ------------------------------------------------------------------ a number
 module _ (n : ℕ) where
   pub one_digit : n < 10 → length (decimal n) ≡ 1
   unfolding decimal
   one_digit h = rw (lt-ltb n 10 h)
-
-  pub two_digits : 10 ≤ n → n < 100 → length (decimal n) ≡ 2
-  unfolding decimal
-  two_digits l h = rw (le-ltb n 10 l, lt-ltb n 100 h)
-
-  pub three_digits : 100 ≤ n → length (decimal n) ≡ 3
-  unfolding decimal
-  three_digits l = let k : 10 ≤ n = omega arith in rw (le-ltb n 10 k, le-ltb n 100 l)
 
   pub below_100 : n < 100 → length (decimal n) ≤ 2
   unfolding decimal
@@ -71,20 +59,3 @@ module _ (n : ℕ) where
       go true b = omega arith
       go false true = omega arith
       go false false = omega arith
-
-module _ (b : Bytes) (at n : ℕ) where
-  pub wrote_one : n < 10 → Wrote b at (decimal n) (set b at (48 + n)) (at + 1)
-  unfolding decimal
-  wrote_one h = rw (lt-ltb n 10 h) (record { bytes = refl; next = refl })
-
-  pub wrote_two : 10 ≤ n → n < 100 → Wrote b at (decimal n) (set (set b at (48 + n / 10)) (at + 1) (48 + n % 10)) (at + 2)
-  unfolding decimal
-  wrote_two l h = rw (le-ltb n 10 l, lt-ltb n 100 h) (record { bytes = rw (add-one at); next = refl })
-
-  pub wrote_three : 100 ≤ n
-      → Wrote b at (decimal n) (set (set (set b at (48 + n / 100)) (at + 1) (48 + n / 10 % 10)) (at + 2) (48 + n % 10)) (at + 3)
-  unfolding decimal
-  wrote_three l =
-      let k : 10 ≤ n = omega arith in
-      let e : at + 2 ≡ suc (suc at) = omega arith in
-      rw (le-ltb n 10 k, le-ltb n 100 l) (record { bytes = rw (e, add-one at); next = refl })

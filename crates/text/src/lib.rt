@@ -5,37 +5,36 @@ ghost use Rattle.std.specs.Prelude.{◌∷◌, ◌++◌, ◌+◌, ◌≤◌, len
 ghost use Rattle.volume.specs.Listing.{decimal, state_word};
 ghost use Rattle.text.specs.Writes.{Wrote};
 
+use sector::State;
+
 // The text is written at `at`.
 pub fn put(out: &mut [u8], at: usize, text: &[u8]) -> usize
     requires { at + length text.now ≤ length out.old }
     ensures { Wrote out.old at text.now out.new result }
 {
-    let mut i = 0;
-    while i < text.len() {
-        out[at + i] = text[i];
-        i += 1;
-    }
-    at + i
+    let end = at + text.len();
+    out[at..end].copy_from_slice(text);
+    end
 }
 
-// The number is written in decimal.
+// The number is written in decimal. By hand: the library's writers of digits (`itoa`, the formatter) fill a buffer of their own,
+// from which the digits would be copied, by divisions of 64 bits.
+#[tactic(auto, unfolding(volume::specs::Listing::decimal))]
 fn put_number(out: &mut [u8], at: usize, n: u8) -> usize
     requires { at + length (decimal n) ≤ length out.old }
     ensures { Wrote out.old at (decimal n) out.new result }
 {
     if n < 10 {
-        out[at] = 48 + n;
-        return at + 1;
+        return put(out, at, &[b'0' + n]);
     }
     if n < 100 {
-        out[at] = 48 + n / 10;
-        out[at + 1] = 48 + n % 10;
-        return at + 2;
+        return put(out, at, &[b'0' + n / 10, b'0' + n % 10]);
     }
-    out[at] = 48 + n / 100;
-    out[at + 1] = 48 + n / 10 % 10;
-    out[at + 2] = 48 + n % 10;
-    at + 3
+    put(
+        out,
+        at,
+        &[b'0' + n / 100, b'0' + n / 10 % 10, b'0' + n % 10],
+    )
 }
 
 // The text is written, and the number after it.
@@ -52,11 +51,9 @@ pub fn put_state(out: &mut [u8], at: usize, state: u8) -> usize
     requires { at + 1 + length (state_word state) ≤ length out.old }
     ensures { Wrote out.old at (0x20 ∷ state_word state) out.new result }
 {
-    if state == 0 {
-        return put(out, at, b" idle");
+    match state {
+        State::IDLE => put(out, at, b" idle"),
+        State::OPEN => put(out, at, b" open"),
+        _ => put(out, at, b" decided"),
     }
-    if state == 1 {
-        return put(out, at, b" open");
-    }
-    put(out, at, b" decided")
 }

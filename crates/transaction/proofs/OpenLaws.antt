@@ -6,6 +6,8 @@ use mathlib.Core.Logic.{◌≢◌}
 use Prim.Native.Nat.{ℕ}
 use native.Mathlib.Omega.{arith}
 use borrow.Author.Tests.{eq-eqb, ne_eqb}
+use Rattle.std.specs.Prelude.{Result, Ok, Err}
+use Rattle.std.specs.Result.{IsErrAnd}
 use Rattle.interface.specs.declared.Session.{Session}
 use Rattle.lists.proofs.CaseLaws.{by_test}
 use Rattle.sector.specs.Contents.{Header}
@@ -21,8 +23,9 @@ use Rattle.rules.specs.Plans.{open_file, open_read, open_plan, open_read_plan, p
 use Rattle.rules.specs.Refusals.{held_by_other}
 use Rattle.rules.proofs.AllowedLaws.{holder_orphaned}
 use Rattle.stores.specs.declared.Run.{Run}
+use Rattle.stores.specs.declared.Crashed.{Crashed}
 use Rattle.stores.specs.Runs.{UpdatesMade, AllMade}
-use Rattle.stores.proofs.MadeLaws.{all_table, made_same, made_more}
+use Rattle.stores.proofs.MadeLaws.{all_table, made_more, made_cut}
 use Rattle.recovery.specs.Work.{recovery_now}
 use Rattle.recovery.proofs.WorkLaws.{now_live}
 use Rattle.recovery.proofs.ReleaseLaws.{recovered_header}
@@ -84,22 +87,28 @@ module _ {v : Volume} (formed : WellFormed v) {k f h : ℕ} (file : IsFile (view
       ≡ recovery redo (view v) h ++ (set_header f (record { holder = k; map = map_after redo (view v) h f }) ∷ [])
   whole s free = rw e at (held_plan (view v) s k f facts free (rw e n) some)
 
-  pub open_read_made : {w : Volume} {r q : Run} → UpdatesMade v r (recovery_now (view v) h) w q → (s : Session)
+  pub open_read_made : {w : Volume} {r : Run} {q : Result Run Crashed} → UpdatesMade v (Ok r) (recovery_now (view v) h) w q → (s : Session)
       → held_by_other (view v) s k f ≡ false → (is_reading s k f ≡ true → ((view v).headers f).holder ≡ 0)
-      → UpdatesMade v r (plan (view v) s (open_read k f)) w q
+      → UpdatesMade v (Ok r) (plan (view v) s (open_read k f)) w q
   open_read_made m s free unread =
       let is : plan (view v) s (open_read k f) ≡ recovery redo (view v) h = rw e at (held_read_plan (view v) s k f facts free unread (rw e n) some) in
       rw is (rw now at m)
 
-  module _ {w : Volume} {r q : Run} (m : UpdatesMade v r (recovery_now (view v) h) w q)
-      (done : q.crashed ≡ false → AllMade v (recovery_now (view v) h) w) where
-    pub recovered_formed : q.crashed ≡ false → WellFormed w × IsFile (view w).table f
-    recovered_formed c = ((done c).formed, rw (all_table _ (done c)) file)
+  module _ {w : Volume} {r : Run} where
+    -- The supply fails while h is recovered.
+    pub open_cut : {q : Result Run Crashed} {c : Crashed} → IsErrAnd q (λ x. x ≡ c) → UpdatesMade v (Ok r) (recovery_now (view v) h) w (Err c)
+        → (s : Session) → held_by_other (view v) s k f ≡ false → UpdatesMade v (Ok r) (plan (view v) s (open_file k f)) w q
+    open_cut i m s free = rw (whole s free) (made_cut _ i (rw now at m))
 
-    map_now : q.crashed ≡ false → ((view w).headers f).map ≡ map_after redo (view v) h f
-    map_now c = ap (λ (a : View). (a.headers f).map) (done c).seen ∙ ap (λ (xs : List Update). ((changed_by (view v) xs).headers f).map) now
-        ∙ ap (λ (x : Header). x.map) (recovered_header redo (view v) h f file e)
+    module _ {q : Run} (m : UpdatesMade v (Ok r) (recovery_now (view v) h) w (Ok q)) (done : AllMade v (recovery_now (view v) h) w) where
+      pub recovered_formed : WellFormed w × IsFile (view w).table f
+      recovered_formed = (done.formed, rw (all_table _ done) file)
 
-    pub open_more : {u : Volume} {l : Run} → UpdatesMade w q (set_header f (record { holder = k; map = ((view w).headers f).map }) ∷ []) u l
-        → (s : Session) → held_by_other (view v) s k f ≡ false → UpdatesMade v r (plan (view v) s (open_file k f)) u l
-    open_more n s free = rw (whole s free) (made_more (λ c. all_table _ (done c)) (rw now at m) (made_same (λ c. rw (map_now c)) n))
+      map_now : ((view w).headers f).map ≡ map_after redo (view v) h f
+      map_now = ap (λ (a : View). (a.headers f).map) done.seen ∙ ap (λ (xs : List Update). ((changed_by (view v) xs).headers f).map) now
+          ∙ ap (λ (x : Header). x.map) (recovered_header redo (view v) h f file e)
+
+      pub open_more : {u : Volume} {z : Result Run Crashed}
+          → UpdatesMade w (Ok q) (set_header f (record { holder = k; map = ((view w).headers f).map }) ∷ []) u z
+          → (s : Session) → held_by_other (view v) s k f ≡ false → UpdatesMade v (Ok r) (plan (view v) s (open_file k f)) u z
+      open_more n s free = rw (whole s free) (made_more (rw now at m) (all_table _ done) (rw map_now at n))

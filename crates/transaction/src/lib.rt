@@ -1,5 +1,6 @@
 // The stores of each call, for a call that isn't refused: each function requires what the tests of its call establish,
 // and makes the stores of the call's plan, as many as the budget allows.
+// They store, so they are lent the bytes, with `WellFormed` in a clause (`stores` says why).
 #![tactic(auto)]
 
 mod abort;

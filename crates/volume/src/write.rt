@@ -8,30 +8,30 @@ ghost use Rattle.volume.specs.Volumes.{view};
 ghost use Rattle.volume.specs.Stores.{updated};
 ghost use Rattle.volume.specs.WellFormed.{WellFormed};
 
-use crate::read::header_sector;
+use crate::read::TabledVolume;
 
 // Client k's record becomes the one that src encodes.
-pub fn store_record(v: &mut [u8], k: u8, src: &[u8])
-    requires { WellFormed v.old × IsClient (view v.old).table k × (length src.now ≡ 256) }
+pub fn store_record(v: &mut [u8], k: u8, src: &[u8; 256])
+    requires { WellFormed v.old × IsClient (view v.old).table k }
     ensures { (r : Record) → src.now ≡ encode_record r → v.new ≡ updated (view v.old).table v.old (set_record k r) }
 {
-    sector::store(v, sector::wide(k), src);
+    sector::store(v, usize::from(k), src);
 }
 
 // File f's header becomes the one that src encodes.
-pub fn store_header(v: &mut [u8], f: u8, src: &[u8])
-    requires { WellFormed v.old × IsFile (view v.old).table f × (length src.now ≡ 256) }
+pub fn store_header(v: &mut [u8], f: u8, src: &[u8; 256])
+    requires { WellFormed v.old × IsFile (view v.old).table f }
     ensures { (h : Header) → src.now ≡ encode_header (file_at (view v.old).table f) h → v.new ≡ updated (view v.old).table v.old (set_header f h) }
 {
-    let s = header_sector(v, f);
+    let s = TabledVolume { bytes: v }.header_sector(f);
     sector::store(v, s, src);
 }
 
 // Slot r of file f becomes src.
-pub fn store_slot(v: &mut [u8], f: u8, r: u8, src: &[u8])
-    requires { WellFormed v.old × IsFile (view v.old).table f × (r < (file_at (view v.old).table f).slots) × (length src.now ≡ 256) }
+pub fn store_slot(v: &mut [u8], f: u8, r: u8, src: &[u8; 256])
+    requires { WellFormed v.old × IsFile (view v.old).table f × (r < (file_at (view v.old).table f).slots) }
     ensures { v.new ≡ updated (view v.old).table v.old (set_slot f r src.now) }
 {
-    let s = header_sector(v, f) + 1 + sector::wide(r);
+    let s = TabledVolume { bytes: v }.header_sector(f) + 1 + usize::from(r);
     sector::store(v, s, src);
 }

@@ -1,30 +1,21 @@
 -- `look` meets its contract: a refusal is the look's, and so is the sector.
 use mathlib.Core.Path.{sym, ap, ◌∙◌}
+use Rattle.std.proofs.lemmas.Result.{err_from_is_err_and}
 use Rattle.interface.specs.Answers.{new_session, found}
 use Rattle.rules.specs.Plans.{look_page}
 use Rattle.rules.specs.Refusals.{query_tests}
 use Rattle.rules.proofs.CallLaws.{query_answered}
 use Rattle.calls.proofs.AnswerLaws.{refused_query}
-use Rattle.calls.proofs.FactLaws.{looks}
 use Rattle.calls.proofs.look.Goals as goal
 
-pub decided_slot-slot-requires : goal.decided_slot-slot-requires
-decided_slot-slot-requires c =
-    let w = looks c.args.volume.now c.args.file c.args.page c.in-Accepted.ensures in
-    (w.sound, w.page)
-
-pub slot_sector-requires : goal.slot_sector-requires
-slot_sector-requires c =
-    let w = looks c.args.volume.now c.args.file c.args.page c.in-Accepted.ensures in
-    (w.formed, w.page.file)
-
-pub returns-in-Refused : goal.returns-in-Refused
+pub returns-in_err-v : goal.returns-in_err-v
 unfolding query_tests
-returns-in-Refused c =
-    refused_query c.args.volume.now new_session (look_page c.args.file c.args.page) c.in-Refused.r c.in-Refused.ensures
+returns-in_err-v c =
+    let p = err_from_is_err_and c.from_residual.result c.from_residual.ensures.1 in
+    rw (p.1, p.2) (refused_query c.args.volume.now new_session (look_page c.args.file c.args.page) _ c.in_err-v.ensures.tested)
 
-pub returns-in-Accepted : goal.returns-in-Accepted
+pub returns : goal.returns
 unfolding query_tests
-returns-in-Accepted c =
-    ap found (rw c.decided_slot-slot.ensures at c.slot_sector.ensures)
-    ∙ sym (query_answered c.args.volume.now new_session (look_page c.args.file c.args.page) (sym c.in-Accepted.ensures))
+returns c =
+    ap found (rw (c.decided_slot-slot.ensures, c.formed.ensures, c.in_ok-v.ensures.same) at c.slot_sector.ensures)
+    ∙ sym (query_answered c.args.volume.now new_session (look_page c.args.file c.args.page) (sym c.in_ok-v.ensures.tested))

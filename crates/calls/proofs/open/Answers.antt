@@ -1,5 +1,6 @@
 -- `open` meets its contract: a refusal is the call's, and so are the stores of its plan.
 use mathlib.Core.Path.{◌∙◌}
+use native.Mathlib.Omega.{arith}
 use Rattle.rules.specs.Plans.{open_file}
 use Rattle.calls.proofs.FactLaws.{opens}
 use Rattle.calls.proofs.AnswerLaws.{refused_call, ended_call}
@@ -7,23 +8,23 @@ use Rattle.calls.proofs.open.Goals as goal
 
 pub open_stores-run-requires : goal.open_stores-run-requires
 open_stores-run-requires c =
-    let w = opens c.args.volume.now c.args.session c.args.client c.args.file c.in-Accepted.ensures in
-    (w.formed, w.file, w.header)
+    let w = opens c.args.volume.now c.args.session c.args.client c.args.file c.in-Ok.ensures in
+    grind (arith, w)
 
 pub without_reading-requires : goal.without_reading-requires
 without_reading-requires c =
-    let w = opens c.args.volume.now c.args.session c.args.client c.args.file c.in-Accepted.ensures in
-    (w.client.0, w.client.1, w.file.low, w.few)
+    let w = opens c.args.volume.now c.args.session c.args.client c.args.file c.in-Ok.ensures in
+    grind (arith, w)
 
-pub returns-in-Refused : goal.returns-in-Refused
-returns-in-Refused c =
+pub returns-in-Err : goal.returns-in-Err
+returns-in-Err c =
     let a = c.args in
-    c.refuse.ensures a.volume.now ∙ refused_call a.volume.now a.session (open_file a.client a.file) a.budget c.in-Refused.r c.in-Refused.ensures
+    c.refuse.ensures a.volume.now ∙ refused_call a.volume.now a.session (open_file a.client a.file) a.budget c.in-Err.r c.in-Err.ensures
 
-pub returns-in-Accepted : goal.returns-in-Accepted
-returns-in-Accepted c =
+pub returns-in-Ok : goal.returns-in-Ok
+returns-in-Ok c =
     let a = c.args in
-    let e = c.in-Accepted.ensures in
+    let e = c.in-Ok.ensures in
     let y = c.open_stores-run in
     let free = (opens a.volume.now a.session a.client a.file e).free in
     c.end.ensures y.new.v

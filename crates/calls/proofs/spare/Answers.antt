@@ -1,20 +1,18 @@
 -- `spare` meets its contract: a refusal is the question's, and so is the byte.
 use mathlib.Core.Path.{sym, ap, ◌∙◌}
+use Rattle.std.proofs.lemmas.Result.{err_from_is_err_and}
 use Rattle.interface.specs.Answers.{counted}
 use Rattle.sector.specs.Decoding.{spare_in}
-use Rattle.rules.proofs.SpareLaws.{may_ask, spare_answered}
+use Rattle.rules.proofs.SpareLaws.{spare_answered}
 use Rattle.calls.proofs.AnswerLaws.{refused_count}
 use Rattle.calls.proofs.spare.Goals as goal
 
-pub header-requires : goal.header-requires
-header-requires c =
-    let w = may_ask c.args.volume.now c.args.file (sym c.in-Accepted.ensures) in
-    (w.tabled, w.file)
+pub returns-in_err-v : goal.returns-in_err-v
+returns-in_err-v c =
+    let p = err_from_is_err_and c.from_residual.result c.from_residual.ensures.1 in
+    rw (p.1, p.2) (refused_count c.args.volume.now c.args.file _ c.in_err-v.ensures.tested)
 
-pub returns-in-Refused : goal.returns-in-Refused
-returns-in-Refused c = refused_count c.args.volume.now c.args.file c.in-Refused.r c.in-Refused.ensures
-
-pub returns-in-Accepted : goal.returns-in-Accepted
-returns-in-Accepted c =
+pub returns : goal.returns
+returns c =
     let a = c.args in
-    ap counted (c.header_spare.ensures ∙ ap spare_in c.header.ensures.0) ∙ sym (spare_answered a.volume.now a.file (sym c.in-Accepted.ensures))
+    ap counted (c.header_spare.ensures ∙ ap spare_in (rw c.in_ok-v.ensures.same at c.header.ensures)) ∙ sym (spare_answered a.volume.now a.file (sym c.in_ok-v.ensures.tested))

@@ -6,16 +6,13 @@ use lib.ListN.{length}
 use Rattle.volume.specs.Sound.{sound}
 use Rattle.enumeration.specs.Small.{candidates}
 use Rattle.enumeration.proofs.ChoiceLaws.{candidates_count}
-use Rattle.enumeration.proofs.AdvanceLaws.{number_here, number_later, number_end}
+use Rattle.enumeration.proofs.AdvanceLaws.{number_later, found_here, found_none}
 use Rattle.enumeration.proofs.search.Goals as goal
-
-pub make_candidate-requires : goal.make_candidate-requires
-make_candidate-requires c = (search rules, rw candidates_count (search rules))
 
 pub returns-then-is_sound : goal.returns-then-is_sound
 returns-then-is_sound c =
     let here : c.loop-i.i < length candidates = rw candidates_count (search rules) in
-    sym (number_here c.loop-i.i here (ap sound (sym c.make_candidate.ensures) ∙ (sym c.is_sound.ensures ∙ c.if-is_sound.true))) ∙ c.loop-i.invariant.0
+    found_here c.args.from c.loop-i.i c.loop-i.invariant.0 here (ap sound (sym c.make_candidate.ensures) ∙ (sym c.is_sound.ensures ∙ c.if-is_sound.true))
 
 pub loop-i-preserved : goal.loop-i-preserved
 loop-i-preserved c =
@@ -25,4 +22,4 @@ loop-i-preserved c =
 pub returns : goal.returns
 returns c =
     let over : length candidates ≤ c.loop-i.i = rw candidates_count (search rules) in
-    sym (number_end c.loop-i.i over) ∙ c.loop-i.invariant.0
+    found_none c.args.from c.loop-i.i c.loop-i.invariant.0 over

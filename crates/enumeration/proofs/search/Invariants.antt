@@ -1,6 +1,5 @@
 -- `search` meets its contract. The invariant: the number searched for is that of the first sound candidate from i on.
 use mathlib.Core.Path.{◌≡◌}
-use Prim.Native.Nat.{◌-◌}
 use lib.ListN.{length, drop}
 use Rattle.enumeration.specs.Small.{candidates}
 use Rattle.enumeration.specs.Advances.{first_sound}
@@ -9,7 +8,3 @@ use Rattle.enumeration.proofs.search.Given as goal
 abbrev pub invariant-loop-i : goal.invariant-loop-i
 invariant-loop-i l =
     (first_sound l.i (drop l.i candidates) ≡ first_sound l.from (drop l.from candidates)) × (length l.trial ≡ length l.initial.trial)
-
-abbrev pub decreases-loop-i : goal.decreases-loop-i
-decreases-loop-i l =
-    2322 - l.i

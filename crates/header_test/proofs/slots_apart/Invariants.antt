@@ -1,6 +1,5 @@
 -- `slots_apart` meets its contract. The loop keeps that the entries from i on decide.
 use mathlib.Core.Path.{◌≡◌}
-use Prim.Native.Nat.{◌-◌, ◌≤◌}
 use lib.ListN.{drop}
 use Rattle.sector.specs.Decoding.{decode_record}
 use Rattle.header_test.specs.Header.{slots_apart}
@@ -8,8 +7,4 @@ use Rattle.header_test.proofs.slots_apart.Given as goal
 
 abbrev pub invariant-loop-i : goal.invariant-loop-i
 invariant-loop-i l =
-    (l.i ≤ l.n) × (slots_apart l.f l.seen (decode_record l.d).entries ≡ slots_apart l.f l.seen (drop l.i (decode_record l.d).entries))
-
-abbrev pub decreases-loop-i : goal.decreases-loop-i
-decreases-loop-i l =
-    l.n - l.i
+    slots_apart l.f l.seen.words (decode_record l.d).entries ≡ slots_apart l.f l.seen.words (drop l.i (decode_record l.d).entries)

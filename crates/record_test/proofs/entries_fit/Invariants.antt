@@ -1,5 +1,4 @@
 -- `entries_fit` meets its contract. The loop keeps that the entries from i on decide, by the sectors in the two sets.
-use Prim.Native.Nat.{◌-◌, ◌≤◌}
 use lib.ListN.{drop}
 use Rattle.sector.specs.Decoding.{decode_record}
 use Rattle.record_test.proofs.RecordLaws.{Left}
@@ -7,8 +6,4 @@ use Rattle.record_test.proofs.entries_fit.Given as goal
 
 abbrev pub invariant-loop-i : goal.invariant-loop-i
 invariant-loop-i l =
-    (l.i ≤ l.n) × Left l.table (decode_record l.d).entries (drop l.i (decode_record l.d).entries) l.pages l.slots
-
-abbrev pub decreases-loop-i : goal.decreases-loop-i
-decreases-loop-i l =
-    l.n - l.i
+    Left l.table (decode_record l.d).entries (drop l.i (decode_record l.d).entries) l.pages.words l.slots.words

@@ -7,15 +7,15 @@ use Rattle.record_test.proofs.RecordLaws.{no_record, record_last}
 use Rattle.record_test.proofs.record_is_sound.Goals as goal
 
 pub returns-then-not-is_record : goal.returns-then-not-is_record
-returns-then-not-is_record c = sym (no_record _ _ (sym c.is_record.ensures ∙ c.if-not-is_record.true))
+returns-then-not-is_record c = sym (no_record _ _ (sym c.if-not-is_record.ensures))
 
 pub entries_fit-requires : goal.entries_fit-requires
 entries_fit-requires c =
-    let few = record_few c.args.d.now c.requires.1 (sym c.is_record.ensures ∙ c.if-not-is_record.false) in
-    let n = c.wide.ensures.0 ∙ c.record_count.ensures in
-    (c.requires.0, c.requires.1, c.requires.2, n, omega (arith, few, n))
+    let few = record_few c.args.d.now c.told-d (sym c.if-not-is_record.ensures) in
+    let n = c.from.ensures ∙ c.record_count.ensures in
+    (c.requires, n, omega (arith, few, n))
 
 pub returns : goal.returns
 returns c =
-    let is = sym c.is_record.ensures ∙ c.if-not-is_record.false in
-    rw (c.state_fits.ensures, c.entries_fit.ensures) (record_last (decode_table c.args.table.now) c.args.d.now c.requires.1 is)
+    rw (c.state_fits.ensures, c.entries_fit.ensures)
+    (record_last (decode_table c.args.table.now) c.args.d.now c.told-d (sym c.if-not-is_record.ensures))

@@ -3,10 +3,10 @@ use mathlib.Core.Path.{sym, ◌∙◌}
 use Rattle.rules.specs.Sessions.{session_fits}
 use Rattle.sessions.proofs.session_fits.Goals as goal
 
-pub returns-then-not-marks_fit : goal.returns-then-not-marks_fit
+pub returns-then-marks_fit : goal.returns-then-marks_fit
 unfolding session_fits
-returns-then-not-marks_fit c = rw (sym c.marks_fit.ensures ∙ c.if-not-marks_fit.true)
+returns-then-marks_fit c = rw (sym c.marks_fit.ensures ∙ c.if-marks_fit.true) c.holds_fit.ensures
 
-pub returns : goal.returns
+pub returns-else-marks_fit : goal.returns-else-marks_fit
 unfolding session_fits
-returns c = rw (sym c.marks_fit.ensures ∙ c.if-not-marks_fit.false) c.holds_fit.ensures
+returns-else-marks_fit c = rw (sym c.marks_fit.ensures ∙ c.if-marks_fit.false) c.if-marks_fit.false

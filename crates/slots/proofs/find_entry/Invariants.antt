@@ -1,5 +1,5 @@
 -- `find_entry` meets its contract: what is left of the entries decides.
-use Rattle.std.proofs.Common.{◌≡◌, ◌≤◌, ◌-◌, length, drop}
+use Rattle.std.proofs.Common.{◌≡◌, length, drop}
 use Rattle.lists.specs.Lists.{find}
 use Rattle.sector.specs.Entries.{for_page}
 use Rattle.volume.specs.Volumes.{view}
@@ -8,10 +8,6 @@ use Rattle.slots.proofs.find_entry.Given as goal
 
 abbrev pub invariant-loop-i : goal.invariant-loop-i
 invariant-loop-i l = record {
-  within : l.i ≤ l.n;
-  count : l.n ≡ length ((view l.v).records l.k).entries;
-  left : entry_for (view l.v) l.k l.f l.p ≡ find (for_page l.f l.p) (drop l.i ((view l.v).records l.k).entries);
+  count : l.i-end ≡ length ((view l.v.bytes.now).records l.k).entries;
+  left : entry_for (view l.v.bytes.now) l.k l.f l.p ≡ find (for_page l.f l.p) (drop l.i ((view l.v.bytes.now).records l.k).entries);
 }
-
-abbrev pub decreases-loop-i : goal.decreases-loop-i
-decreases-loop-i l = l.n - l.i

@@ -5,12 +5,12 @@ use Rattle.rules.specs.Plans.{slot_for}
 use Rattle.slots.proofs.SlotLaws.{entry_at, no_entry_lem}
 use Rattle.slots.proofs.read_slot.Goals as goal
 
-pub returns-in-Slot : goal.returns-in-Slot
-returns-in-Slot c =
-    let e = entry_at _ _ c.in-Slot.ensures in
-    sym (ap (slot_for (view c.args.v.now) c.args.f c.args.p) e.found ∙ e.slot)
+pub returns-in-Some : goal.returns-in-Some
+returns-in-Some c =
+    let e = entry_at _ _ c.in-Some.ensures in
+    sym (ap (slot_for (view c.args.v.bytes.now) c.args.f c.args.p) e.found ∙ e.slot)
 
-pub returns-in-Nothing : goal.returns-in-Nothing
-returns-in-Nothing c =
-    let e = no_entry_lem _ c.in-Nothing.ensures in
-    c.mapped_slot.ensures ∙ sym (ap (slot_for (view c.args.v.now) c.args.f c.args.p) e)
+pub returns-in-None : goal.returns-in-None
+returns-in-None c =
+    let e = no_entry_lem _ c.in-None.ensures in
+    c.mapped_slot.ensures ∙ sym (ap (slot_for (view c.args.v.bytes.now) c.args.f c.args.p) e)

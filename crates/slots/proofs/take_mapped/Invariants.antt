@@ -1,5 +1,5 @@
 -- `take_mapped` meets its contract: what is taken, or is left of the map, stays the same.
-use Rattle.std.proofs.Common.{◌≡◌, ◌||◌, ◌≤◌, ◌-◌, ℕ, length, drop}
+use Rattle.std.proofs.Common.{◌≡◌, ◌||◌, ℕ, length, drop}
 use Rattle.lists.specs.Lists.{member}
 use Rattle.volume.specs.Volumes.{view}
 use Rattle.byteset.specs.Set.{has_byte}
@@ -7,11 +7,7 @@ use Rattle.slots.proofs.take_mapped.Given as goal
 
 abbrev pub invariant-loop-p : goal.invariant-loop-p
 invariant-loop-p l = record {
-  within : l.p ≤ l.n;
-  size : l.n ≡ length ((view l.v).headers l.f).map;
-  taken : (y : ℕ) → (has_byte l.taken y || member y (drop l.p ((view l.v).headers l.f).map)) ≡ (has_byte l.initial.taken y || member y ((view l.v).headers l.f).map);
-  long : length l.taken ≡ 4;
+  size : l.p-end ≡ length ((view l.v.bytes.now).headers l.f).map;
+  taken : (y : ℕ) → (has_byte l.taken.words y || member y (drop l.p ((view l.v.bytes.now).headers l.f).map)) ≡ (has_byte l.initial.taken.words y || member y ((view l.v.bytes.now).headers l.f).map);
+  long : length l.taken.words ≡ 4;
 }
-
-abbrev pub decreases-loop-p : goal.decreases-loop-p
-decreases-loop-p l = l.n - l.p

@@ -6,43 +6,37 @@ use Rattle.soundness.proofs.SoundLaws.{few_clients, records_inside, tested, tabl
 use Rattle.soundness.proofs.is_sound.Goals as goal
 
 pub returns-then-not-table_is_sound_in : goal.returns-then-not-table_is_sound_in
-returns-then-not-table_is_sound_in c =
-    sym (table_unsound c.args.v.now (sym c.table_is_sound_in.ensures ∙ c.if-not-table_is_sound_in.true))
+returns-then-not-table_is_sound_in c = sym (table_unsound c.args.v.now (sym c.if-not-table_is_sound_in.ensures))
 
 pub part-table-requires : goal.part-table-requires
 part-table-requires c =
     let v = c.args.v.now in
-    let k = table_tested v (sector v 0) refl (sym c.table_is_sound_in.ensures ∙ c.if-not-table_is_sound_in.false) in
+    let k = table_tested v (sector v 0) refl (sym c.if-not-table_is_sound_in.ensures) in
     (k.long, omega arith)
 
 pub records_are_sound-requires : goal.records_are_sound-requires
 records_are_sound-requires c =
     let v = c.args.v.now in
     let tb = c.part-table.result.now in
-    let k = table_tested v tb c.part-table.ensures.0 (sym c.table_is_sound_in.ensures ∙ c.if-not-table_is_sound_in.false) in
-    let n = c.wide.ensures.0 ∙ c.table_clients.ensures in
-    (c.part-table.ensures.1, k.table, rw n (few_clients v tb k.table k.size), rw n (records_inside v tb k.table k.size))
+    let k = table_tested v tb c.part-table.ensures (sym c.if-not-table_is_sound_in.ensures) in
+    let n = c.from.ensures ∙ c.table_clients.ensures in
+    (k.table, rw n (few_clients v tb k.table k.size), rw n (records_inside v tb k.table k.size))
 
 pub returns-then-not-records_are_sound : goal.returns-then-not-records_are_sound
 returns-then-not-records_are_sound c =
-    let n = c.wide.ensures.0 ∙ c.table_clients.ensures in
-    let no = rw n at (sym c.records_are_sound.ensures ∙ c.if-not-records_are_sound.true) in
-    sym (records_no c.args.v.now _ c.part-table.ensures.0 no)
+    let n = c.from.ensures ∙ c.table_clients.ensures in
+    sym (records_no c.args.v.now _ c.part-table.ensures (sym (rw n at c.if-not-records_are_sound.ensures)))
 
-pub headers_are_sound-requires : goal.headers_are_sound-requires
-headers_are_sound-requires c =
+pub invariant_of-headers_are_sound : goal.invariant_of-headers_are_sound
+invariant_of-headers_are_sound c =
     let v = c.args.v.now in
     let tb = c.part-table.result.now in
-    let k = table_tested v tb c.part-table.ensures.0 (sym c.table_is_sound_in.ensures ∙ c.if-not-table_is_sound_in.false) in
-    let n = c.wide.ensures.0 ∙ c.table_clients.ensures in
-    let recs = rw n at (sym c.records_are_sound.ensures ∙ c.if-not-records_are_sound.false) in
-    (tested v tb k.table k.size c.part-table.ensures.1 recs, c.wide-2.ensures.0 ∙ c.table_files.ensures)
+    let k = table_tested v tb c.part-table.ensures (sym c.if-not-table_is_sound_in.ensures) in
+    let n = c.from.ensures ∙ c.table_clients.ensures in
+    record { tested = tested v tb k.table k.size (sym (rw n at c.if-not-records_are_sound.ensures)) }
 
 pub returns : goal.returns
 returns c =
-    let v = c.args.v.now in
-    let tb = c.part-table.result.now in
-    let n = c.wide.ensures.0 ∙ c.table_clients.ensures in
-    let recs = rw n at (sym c.records_are_sound.ensures ∙ c.if-not-records_are_sound.false) in
+    let n = c.from.ensures ∙ c.table_clients.ensures in
     c.headers_are_sound.ensures
-    ∙ rw (c.wide-2.ensures.0, c.table_files.ensures) (sound_last v tb c.part-table.ensures.0 (sym c.table_is_sound_in.ensures ∙ c.if-not-table_is_sound_in.false) recs)
+    ∙ sound_last c.args.v.now _ c.part-table.ensures (sym c.if-not-table_is_sound_in.ensures) (sym (rw n at c.if-not-records_are_sound.ensures))

@@ -2,10 +2,8 @@
 use Rattle.stores.proofs.MadeLaws.{put_made, put_short}
 use Rattle.stores.proofs.put_record.Goals as goal
 
-pub returns-then-not-next : goal.returns-then-not-next
-returns-then-not-next c =
-    λ x e. put_made _ c.count-next.ensures c.if-not-next.true (c.store_record.ensures x e)
+pub returns-in_err-next : goal.returns-in_err-next
+returns-in_err-next c = λ x e. put_short _ c.from_residual.ensures.1 c.in_err-next.ensures
 
-pub returns-else-not-next : goal.returns-else-not-next
-returns-else-not-next c =
-    λ x e. put_short _ c.count-next.ensures c.if-not-next.false
+pub returns : goal.returns
+returns c = λ x e. put_made _ c.in_ok-next.ensures (c.store_record.ensures x e)

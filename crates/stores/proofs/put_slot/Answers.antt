@@ -2,10 +2,8 @@
 use Rattle.stores.proofs.MadeLaws.{put_made, put_short}
 use Rattle.stores.proofs.put_slot.Goals as goal
 
-pub returns-then-not-next : goal.returns-then-not-next
-returns-then-not-next c =
-    put_made _ c.count-next.ensures c.if-not-next.true c.store_slot.ensures
+pub returns-in_err-run : goal.returns-in_err-run
+returns-in_err-run c = put_short _ c.from_residual.ensures.1 c.in_err-run.ensures
 
-pub returns-else-not-next : goal.returns-else-not-next
-returns-else-not-next c =
-    put_short _ c.count-next.ensures c.if-not-next.false
+pub returns : goal.returns
+returns c = put_made _ c.in_ok-run.ensures c.store_slot.ensures

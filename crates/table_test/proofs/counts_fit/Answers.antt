@@ -7,4 +7,4 @@ use Rattle.table_test.proofs.counts_fit.Goals as goal
 pub returns : goal.returns
 unfolding counts_fit all
 returns c =
-    rw (c.wide-files.ensures.0, c.table_files.ensures, c.wide-clients.ensures.0, c.table_clients.ensures, c.table_sectors-sectors.ensures.0) (simp and-true)
+    rw (c.from-files.ensures, c.table_files.ensures, c.from-clients.ensures, c.table_clients.ensures, c.table_sectors-sectors.ensures.0) (simp and-true)

@@ -1,28 +1,20 @@
--- `check_slot` meets its contract: the length is tested first, and then the entry decides.
+-- `check_slot` meets its contract: the entry that the record has for the page decides.
 use mathlib.Core.Path.{sym, ap, ◌∙◌}
-use borrow.Author.Tests.{eq-eqb, ne_eqb}
+use native.Mathlib.Omega.{arith}
+use Rattle.std.proofs.lemmas.Grind.{common_steps}
 use Rattle.lists.specs.Lists.{first}
-use Rattle.volume.specs.Volumes.{view}
 use Rattle.slots.specs.Slots.{slot_of}
 use Rattle.slots.proofs.SlotLaws.{entry_at, no_entry_lem}
-use Rattle.checks.specs.Writes.{again}
-use Rattle.checks.proofs.WriteVerdictLaws.{answer_for}
 use Rattle.checks.proofs.write.check_slot.Goals as goal
 
-pub returns-then-bytes-ne-SIZE : goal.returns-then-bytes-ne-SIZE
+pub returns-in-Some : goal.returns-in-Some
 unfolding first
-returns-then-bytes-ne-SIZE c = rw (ne_eqb _ 256 c.if-bytes-ne-SIZE.true)
+returns-in-Some c =
+    let e = entry_at _ _ (ap slot_of (sym c.in-Some.is) ∙ c.find_entry.ensures) in
+    grind (arith, common_steps, e.found, e.slot)
 
-pub returns-in-Slot : goal.returns-in-Slot
+pub returns-in-None : goal.returns-in-None
 unfolding first
-returns-in-Slot c =
-    let e = entry_at _ _ (ap slot_of (sym c.in-Slot.is) ∙ c.find_entry.ensures) in
-    sym (ap (answer_for (view c.args.v.now) c.args.k c.args.f c.args.p c.args.bytes.now) e.found
-    ∙ rw (eq-eqb _ 256 c.if-bytes-ne-SIZE.false) (ap again e.slot))
-
-pub returns-in-Nothing : goal.returns-in-Nothing
-unfolding first
-returns-in-Nothing c =
-    let e = no_entry_lem _ (ap slot_of (sym c.in-Nothing.is) ∙ c.find_entry.ensures) in
-    sym (ap (answer_for (view c.args.v.now) c.args.k c.args.f c.args.p c.args.bytes.now) e
-    ∙ rw (eq-eqb _ 256 c.if-bytes-ne-SIZE.false) (sym c.new_slot.ensures))
+returns-in-None c =
+    let e = no_entry_lem _ (ap slot_of (sym c.in-None.is) ∙ c.find_entry.ensures) in
+    grind (arith, common_steps, e)

@@ -1,29 +1,23 @@
--- `new_slot` meets its contract: the first test that holds gives its number.
-use mathlib.Core.Path.{sym, ap, ◌∙◌}
-use borrow.Author.Tests.{eq-eqb, ne_eqb}
-use lib.ListN.{length}
+use mathlib.Core.Path.{sym, ap, ◌≡◌, ◌∙◌}
+use Rattle.std.specs.Prelude.{Some, None}
+use native.Mathlib.Omega.{arith}
+use Rattle.std.proofs.lemmas.Grind.{common_steps}
 use Rattle.lists.specs.Lists.{first}
-use Rattle.slots.specs.Slots.{slot_of}
 use Rattle.volume.specs.Volumes.{view}
+use Rattle.slots.specs.Slots.{slot_of}
 use Rattle.rules.proofs.ChoiceLaws.{none_chosen, some_chosen}
-use Rattle.checks.specs.Writes.{new}
 use Rattle.checks.proofs.write.new_slot.Goals as goal
 
-pub returns-then-wide-eq-ENTRIES : goal.returns-then-wide-eq-ENTRIES
+pub returns-in_err-r : goal.returns-in_err-r
 unfolding first
-returns-then-wide-eq-ENTRIES c =
-    let count = c.wide.ensures.0 ∙ c.entry_count.ensures.0 in
-    let slot = some_chosen (view c.args.v.now) c.args.k c.args.f c.args.p _ (ap slot_of (sym c.in-Slot.is) ∙ c.free_slot.ensures) in
-    rw (slot.0, eq-eqb _ 62 (sym count ∙ c.if-wide-eq-ENTRIES.true))
+returns-in_err-r c =
+    let none : c.free_slot.result ≡ None = grind arith in
+    let no = none_chosen (view c.args.v.bytes.now) c.args.k c.args.f c.args.p (ap slot_of (sym none) ∙ c.free_slot.ensures) in
+    grind (arith, common_steps, no)
 
-pub returns-in-Nothing : goal.returns-in-Nothing
+pub returns : goal.returns
 unfolding first
-returns-in-Nothing c =
-    rw (none_chosen (view c.args.v.now) c.args.k c.args.f c.args.p (ap slot_of (sym c.in-Nothing.is) ∙ c.free_slot.ensures))
-
-pub returns-else-wide-eq-ENTRIES : goal.returns-else-wide-eq-ENTRIES
-unfolding first
-returns-else-wide-eq-ENTRIES c =
-    let count = c.wide.ensures.0 ∙ c.entry_count.ensures.0 in
-    let slot = some_chosen (view c.args.v.now) c.args.k c.args.f c.args.p _ (ap slot_of (sym c.in-Slot.is) ∙ c.free_slot.ensures) in
-    rw (slot.0, ne_eqb (length ((view c.args.v.now).records c.args.k).entries) 62 (λ e. c.if-wide-eq-ENTRIES.false (count ∙ e))) (ap new slot.1)
+returns c =
+    let some : c.free_slot.result ≡ Some c.in_ok-r.r = grind arith in
+    let slot = some_chosen (view c.args.v.bytes.now) c.args.k c.args.f c.args.p _ (ap slot_of (sym some) ∙ c.free_slot.ensures) in
+    grind (arith, common_steps, slot)

@@ -1,12 +1,10 @@
--- The invariant of `fill`: up to i there are the values.
+-- The invariant of `fill`: up to here there are the values, and the next one is known.
 use mathlib.Core.Path.{◌≡◌}
-use Prim.Native.Nat.{◌-◌, ◌≤◌}
+use Prim.Native.Nat.{◌+◌, ◌%◌}
 use lib.ListN.{length, take}
 use Rattle.commands.specs.Lines.{ramp}
 use Rattle.commands.proofs.lines.fill.Given as goal
 
-abbrev pub invariant-loop-i : goal.invariant-loop-i
-invariant-loop-i l = (l.i ≤ l.n) × (length l.buf ≡ 512) × (take l.i l.buf ≡ ramp l.seed l.i)
-
-abbrev pub decreases-loop-i : goal.decreases-loop-i
-decreases-loop-i l = l.n - l.i
+abbrev pub invariant-loop-x : goal.invariant-loop-x
+invariant-loop-x l =
+    (length l.part ≡ length l.initial.part) × (l.next ≡ (l.seed + l.x-index) % 256) × (take l.x-index l.part ≡ ramp l.seed l.x-index)

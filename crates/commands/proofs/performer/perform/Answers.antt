@@ -1,7 +1,7 @@
 -- `perform` meets its contract, by the action of the command.
 use mathlib.Core.Path.{sym, ◌∙◌}
 use Rattle.rules.specs.Plans.{begin, open_file, open_read, write, commit, abort, read_page, look_page}
-use Rattle.commands.specs.declared.Action.{Action}
+use Rattle.script.specs.declared.Action.{Action}
 use Rattle.rules.proofs.CallLaws.{look_asked}
 use Rattle.commands.proofs.CommandLaws.{step_by_lem, performed_call, performed_query}
 use Rattle.commands.proofs.performer.perform.Goals as goal

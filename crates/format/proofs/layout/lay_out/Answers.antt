@@ -25,9 +25,9 @@ pub returns : goal.returns
 returns c =
     let n : ℕ = length c.args.v.now in
     let l = c.args.shape.now in
-    let zeros = c.clear.ensures ∙ ap (λ (m : ℕ). replicate {A = ℕ} m 0) c.requires.size in
-    let kept : length c.clear.new.v ≡ n = omega arith in
+    let zeros = c.fill.ensures.after (λ y e. e) ∙ ap (λ (m : ℕ). replicate {A = ℕ} m 0) c.requires.size in
+    let kept : length c.fill.new.self ≡ n = omega arith in
     let few : length (files_of l) ≤ entry_limit = omega (arith, files_count l) in
-    laid_out (table_for n c.args.clients l) c.clear.new.v c.put_records.new.v c.put_files.new.v
+    laid_out (table_for n c.args.clients l) c.fill.new.self c.put_records.new.v c.put_files.new.v
     zeros few c.requires.files c.requires.ends
-    (rw (c.wide.ensures.0, c.put_table.ensures, kept) at c.put_records.ensures.puts) (rw c.wide-2.ensures.0 at c.put_files.ensures)
+    (rw (c.from-clients.ensures, c.put_table.ensures, kept) at c.put_records.ensures.puts) (rw c.from-clients.ensures at c.put_files.ensures)

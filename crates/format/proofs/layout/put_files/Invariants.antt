@@ -3,7 +3,7 @@
 use mathlib.Core.Path.{◌≡◌}
 use mathlib.Core.Bool.{true}
 use mathlib.Core.List.{List}
-use Prim.Native.Nat.{ℕ, ◌*◌, ◌-◌, ◌/◌, ◌≤◌}
+use Prim.Native.Nat.{ℕ, ◌*◌, ◌≤◌}
 use lib.ListN.{length, drop}
 use Rattle.lists.specs.Lists.{every}
 use Rattle.volume.specs.Places.{sector_after}
@@ -15,10 +15,6 @@ use Rattle.format.proofs.layout.put_files.Given as goal
 
 abbrev pub invariant-loop-i : goal.invariant-loop-i
 invariant-loop-i l =
-    (l.i ≤ l.n) × (l.n ≡ length l.shape / 2) × (length l.v ≡ length l.initial.v) × (256 * sector_after l.h (drop l.i (files_of l.shape)) ≤ length l.initial.v)
+    (length l.v ≡ length l.initial.v) × (256 * sector_after l.h (drop l.i (files_of l.shape)) ≤ length l.initial.v)
     × (every file_fits (drop l.i (files_of l.shape)) ≡ true)
     × ((w : List ℕ) → Puts (256 * l.h) (new_files (drop l.i (files_of l.shape))) l.v w → Puts (256 * l.first) (new_files (files_of l.shape)) l.initial.v w)
-
-abbrev pub decreases-loop-i : goal.decreases-loop-i
-decreases-loop-i l =
-    l.n - l.i

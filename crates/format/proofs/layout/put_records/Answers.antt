@@ -10,11 +10,11 @@ use Rattle.format.proofs.layout.put_records.Goals as goal
 
 pub loop-k-preserved : goal.loop-k-preserved
 loop-k-preserved c =
-    let turn = records_turn c.args.clients c.loop-k.k c.loop-k.v c.loop-k.invariant.0 (omega arith) in
-    (omega arith, omega arith, omega arith, rw c.put_record.ensures (λ w x. c.loop-k.invariant.3 w (turn w x)))
+    let turn = records_turn c.args.clients c.loop-k.k c.loop-k.v (omega arith) (omega arith) in
+    (omega arith, rw c.put_record.ensures (λ w x. c.loop-k.invariant.1 w (turn w x)))
 
 pub returns-clause-puts : goal.returns-clause-puts
 unfolding repeated
 returns-clause-puts c =
     let e : c.args.clients + 1 - c.loop-k.k ≡ 0 = omega arith in
-    c.loop-k.invariant.3 c.loop-k.v (rw e (puts_zeros (256 * c.loop-k.k) 0 c.loop-k.v))
+    c.loop-k.invariant.1 c.loop-k.v (rw e (puts_zeros (256 * c.loop-k.k) 0 c.loop-k.v))

@@ -2,7 +2,7 @@
 -- them. At the end none are left.
 use mathlib.Core.Path.{◌≡◌}
 use mathlib.Core.List.{List}
-use Prim.Native.Nat.{ℕ, ◌+◌, ◌*◌, ◌-◌, ◌≤◌}
+use Prim.Native.Nat.{ℕ, ◌+◌, ◌*◌, ◌-◌}
 use lib.ListN.{length}
 use Rattle.sector.specs.Contents.{idle_record}
 use Rattle.sector.specs.Encoding.{encode_record}
@@ -12,10 +12,6 @@ use Rattle.format.proofs.layout.put_records.Given as goal
 
 abbrev pub invariant-loop-k : goal.invariant-loop-k
 invariant-loop-k l =
-    (1 ≤ l.k) × (l.k ≤ l.clients + 1) × (length l.v ≡ length l.initial.v)
+    (length l.v ≡ length l.initial.v)
     × ((w : List ℕ) → Puts (256 * l.k) (repeated (l.clients + 1 - l.k) (encode_record idle_record)) l.v w
     → Puts 256 (repeated l.clients (encode_record idle_record)) l.initial.v w)
-
-abbrev pub decreases-loop-k : goal.decreases-loop-k
-decreases-loop-k l =
-    l.clients + 1 - l.k

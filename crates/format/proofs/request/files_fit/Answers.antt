@@ -1,19 +1,15 @@
--- `files_fit` meets its contract. The invariant: whether all files fit is whether those from `i` on fit.
-use mathlib.Core.Path.{refl, sym, ◌∙◌}
-use native.Mathlib.Omega.{arith}
-use Rattle.format.proofs.RequestLaws.{fits_turn, fits_stop, fits_end}
+-- `files_fit` meets its contract: all pairs of the list fit, which are its files.
+use mathlib.Core.Path.{◌∙◌}
+use borrow.Author.Tests.{tests}
+use Rattle.std.proofs.Common.{rules}
+use Rattle.std.proofs.lemmas.Iterator.{YieldsList-from_slice}
+use Rattle.std.proofs.lemmas.Iterator.Search.{all_from_yields_List}
+use Rattle.volume.specs.Lawful.{file_fits}
+use Rattle.format.proofs.RequestLaws.{pair_of, every_file}
 use Rattle.format.proofs.request.files_fit.Goals as goal
-
-pub returns-then-not-file_fits : goal.returns-then-not-file_fits
-returns-then-not-file_fits c =
-    let bad = sym c.file_fits.ensures ∙ c.if-not-file_fits.true in
-    sym (c.loop-i.invariant.2 ∙ fits_stop c.args.shape.now c.loop-i.i (omega arith) bad)
-
-pub loop-i-preserved : goal.loop-i-preserved
-loop-i-preserved c =
-    let fits = sym c.file_fits.ensures ∙ c.if-not-file_fits.false in
-    (omega arith, refl, c.loop-i.invariant.2 ∙ fits_turn c.args.shape.now c.loop-i.i (omega arith) fits)
 
 pub returns : goal.returns
 returns c =
-    sym (c.loop-i.invariant.2 ∙ fits_end c.args.shape.now c.loop-i.i (omega arith))
+    let pairs = c.as_chunks.result.0.now in
+    all_from_yields_List (λ x. file_fits (pair_of x)) _ _ _ c.all.ensures.ran (YieldsList-from_slice pairs c.iter.ensures.rest) (λ x b q k. search (rules, tests))
+    ∙ rw c.as_chunks.ensures.front (every_file file_fits c.args.shape.now)

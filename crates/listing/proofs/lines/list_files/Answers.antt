@@ -3,21 +3,19 @@ use native.Mathlib.Omega.{arith}
 use lib.ListN.{length}
 use Rattle.volume.specs.Volumes.{view}
 use Rattle.volume.specs.Listing.{file_line_of}
-use Rattle.volume.proofs.ReadLaws.{few_files}
 use Rattle.listing.proofs.LinesLaws.{file_length, writing_starts, writing_room, writing_turn}
 use Rattle.listing.proofs.lines.list_files.Goals as goal
 
 pub loop-f-init : goal.loop-f-init
 loop-f-init c =
-    let v = c.args.v.now in
-    let e = c.files-n.ensures in
-    (e, omega (arith, few_files v c.requires.0.tabled), writing_starts (file_line_of (view v)) (length (view v).table.files) c.args.out.now c.args.start c.requires.1)
+    let v = c.args.v.bytes.now in
+    writing_starts (file_line_of (view v)) (length (view v).table.files) c.args.out.now c.args.start c.requires
 
 pub file_line-at-requires : goal.file_line-at-requires
 file_line-at-requires c =
-    rw (c.holder.ensures, c.pages.ensures, c.slots.ensures, ← file_length c.loop-f.f _ _ _) (writing_room c.loop-f.invariant.2 (omega arith))
+    rw (c.holder.ensures, c.file.ensures, ← file_length c.loop-f.f _ _ _) (writing_room c.loop-f.invariant (omega arith))
 
 pub loop-f-preserved : goal.loop-f-preserved
 loop-f-preserved c =
-    let line = rw (c.holder.ensures, c.pages.ensures, c.slots.ensures) at c.file_line-at.ensures in
-    (c.loop-f.invariant.0, c.loop-f.invariant.1, writing_turn c.loop-f.invariant.2 (omega arith) line)
+    let line = rw (c.holder.ensures, c.file.ensures) at c.file_line-at.ensures in
+    writing_turn c.loop-f.invariant (omega arith) line

@@ -1,9 +1,7 @@
--- `put_nothing` meets its contract: zeros twice.
-use Rattle.text.proofs.WritesLaws.{wrote_more}
-use Rattle.replay.proofs.TranscriptLaws.{zeros_padded}
+-- `put_nothing` meets its contract: zeros as long as two pages.
+use native.Mathlib.Omega.{arith}
+use Rattle.replay.proofs.TranscriptLaws.{wrote_zeros}
 use Rattle.replay.proofs.transcript.put_nothing.Goals as goal
 
 pub returns : goal.returns
-returns c =
-    let z = c.zeros-zeros.ensures.0 in
-    rw (zeros_padded) (wrote_more (rw z at c.put-next.ensures) (rw z at c.put.ensures))
+returns c = wrote_zeros c.args.out.now c.args.at _ _ _ (omega arith) (omega arith) c.requires (c.fill.ensures.after (λ y h. h))

@@ -1,13 +1,18 @@
--- `arguments_fit` meets its contract: what is left of the arguments decides.
+-- `arguments_fit` meets its contract: each of the first n arguments is tested.
+use borrow.Author.Tests.{tests}
+use borrow.Author.Rules.{rules}
 use native.Mathlib.Omega.{arith}
-use borrow.Author.Tests.{le-leb}
-use Rattle.lists.proofs.TestLaws.{numbers_more}
-use Rattle.script.proofs.kinds.arguments_fit.Invariants.{fit}
+use Rattle.std.proofs.lemmas.Iterator.{YieldsList-from_range}
+use Rattle.std.proofs.lemmas.Iterator.Search.{all_from_yields_List}
+use Rattle.script.specs.Kinds.{limit}
+use Rattle.script.specs.Fields.{argument}
+use Rattle.script.proofs.KindLaws.{all_from}
+use mathlib.Core.Path.{◌∙◌, refl}
+use lib.Dec.{leb}
+use Prim.Native.Nat.{◌+◌}
 use Rattle.script.proofs.kinds.arguments_fit.Goals as goal
 
-pub loop-i-preserved : goal.loop-i-preserved
-loop-i-preserved c = (
-  omega arith,
-  numbers_more (fit c.args.line.now c.args.x) _ c.args.n c.loop-i.i c.loop-i.invariant.1 (omega arith)
-      (rw (← c.argument-a.ensures, ← c.limit.ensures) (le-leb _ _ c.if-limit-a.false)),
-)
+pub returns : goal.returns
+returns c =
+    all_from_yields_List (λ i. leb (argument (i + 1) c.args.line.now) (limit c.args.x.now i)) _ _ c.all.result c.all.ensures.ran (YieldsList-from_range 0 c.args.n c.args.n refl (omega arith)) (λ x b q k. search (rules, tests))
+    ∙ all_from _ 0 c.args.n

@@ -1,26 +1,23 @@
--- `kind` meets its contract: what is left of the table decides.
-use mathlib.Core.Path.{sym, ◌∙◌}
+-- `kind` meets its contract: the first row that the line fits.
+use mathlib.Core.Path.{ap, ◌∙◌}
+use Rattle.std.specs.Option.{option_map}
+use Rattle.script.specs.declared.Row.{Row}
+use borrow.Author.Tests.{tests}
 use borrow.Author.Rules.{rules}
-use native.Mathlib.Omega.{arith}
-use Rattle.script.specs.Kinds.{rows}
-use Rattle.script.proofs.KindLaws.{kind_here, kind_later, kind_none}
+use Rattle.std.proofs.lemmas.Iterator.{YieldsList-from_slice}
+use Rattle.std.proofs.lemmas.Iterator.Search.{find_from_yields_List}
+use Rattle.script.specs.Kinds.{rows, fits}
+use Rattle.script.proofs.KindLaws.{kind_found}
 use Rattle.script.proofs.kinds.kind.Goals as goal
 
-pub row_at-x-requires : goal.row_at-x-requires
+pub returns-in_err-x : goal.returns-in_err-x
 unfolding rows
-row_at-x-requires c = search rules
-
-pub returns-then-fits : goal.returns-then-fits
-returns-then-fits c =
-    sym (kind_here rows _ _ c.loop-i.i c.loop-i.invariant.1 c.row_at-x.result c.row_at-x.ensures (sym c.fits.ensures ∙ c.if-fits.true))
-
-pub loop-i-preserved : goal.loop-i-preserved
-loop-i-preserved c = (
-  omega arith,
-  kind_later rows _ _ c.loop-i.i c.loop-i.invariant.1 c.row_at-x.result c.row_at-x.ensures
-      (sym c.fits.ensures ∙ c.if-fits.false),
-)
+returns-in_err-x c =
+    let p = find_from_yields_List (λ x. fits x c.args.line.now) _ _ c.find.result c.find.ensures.ran (YieldsList-from_slice rows c.iter.ensures.rest) (λ x b q k. search (rules, tests)) in
+    c.from_residual.ensures ∙ ap (option_map (λ (x : Row). x.kind)) (rw c.in_err-x.was at p) ∙ kind_found rows c.args.line.now
 
 pub returns : goal.returns
 unfolding rows
-returns c = sym (kind_none rows _ _ c.loop-i.i c.loop-i.invariant.1 (omega arith))
+returns c =
+    let p = find_from_yields_List (λ x. fits x c.args.line.now) _ _ c.find.result c.find.ensures.ran (YieldsList-from_slice rows c.iter.ensures.rest) (λ x b q k. search (rules, tests)) in
+    ap (option_map (λ (x : Row). x.kind)) (rw c.in_ok-x.was at p) ∙ kind_found rows c.args.line.now

@@ -7,11 +7,10 @@ use Rattle.script.proofs.texts.put_hex.Goals as goal
 
 pub loop-i-preserved : goal.loop-i-preserved
 loop-i-preserved c = (
-  omega arith,
-  simp length-set c.loop-i.invariant.1,
-  rw (c.hex_digit.ensures, c.high.ensures.0, c.hex_digit-in-loop-i.ensures)
-      (hex_more c.args.bytes.now c.loop-i.out c.loop-i.i (omega arith)) ∙ c.loop-i.invariant.2,
+  simp length-set c.loop-i.invariant.0,
+  rw (c.hex_digit.ensures, c.hex_digit-in-loop-i.ensures)
+      (hex_more c.args.bytes.now c.loop-i.out c.loop-i.i (omega arith)) ∙ c.loop-i.invariant.1,
 )
 
 pub returns : goal.returns
-returns c = sym (hex_done c.args.bytes.now c.loop-i.out c.loop-i.i (omega arith)) ∙ c.loop-i.invariant.2
+returns c = sym (hex_done c.args.bytes.now c.loop-i.out c.loop-i.i (omega arith)) ∙ c.loop-i.invariant.1

@@ -1,6 +1,6 @@
 -- The invariant of `put_hex`: what is left to write decides.
 use mathlib.Core.Path.{◌≡◌}
-use Prim.Native.Nat.{◌*◌, ◌-◌, ◌≤◌}
+use Prim.Native.Nat.{◌*◌}
 use lib.ListN.{length, drop}
 use lib.Seq.{sets}
 use Rattle.script.specs.Texts.{hex_text}
@@ -8,8 +8,5 @@ use Rattle.script.proofs.texts.put_hex.Given as goal
 
 abbrev pub invariant-loop-i : goal.invariant-loop-i
 invariant-loop-i l =
-    (l.i ≤ length l.bytes) × (length l.out ≡ length l.initial.out)
+    (length l.out ≡ length l.initial.out)
     × (sets l.out (2 * l.i) (hex_text (drop l.i l.bytes)) ≡ sets l.initial.out 0 (hex_text l.bytes))
-
-abbrev pub decreases-loop-i : goal.decreases-loop-i
-decreases-loop-i l = length l.bytes - l.i

@@ -3,14 +3,14 @@ use borrow.Author.Tests.{eq-eqb, ne_eqb}
 use Rattle.sector.specs.Edits.{entry_applied}
 use Rattle.sector.proofs.build.apply_entry.Goals as goal
 
-pub returns-then-entry_file-f-clause-buf_after : goal.returns-then-entry_file-f-clause-buf_after
+pub returns-then-e-f : goal.returns-then-e-f
 unfolding entry_applied
-returns-then-entry_file-f-clause-buf_after c =
-    let own = rw c.entry_file.ensures at c.if-entry_file-f.true in
-    rw (eq-eqb _ _ own, c.wide-p.ensures.0, c.entry_page.ensures, c.entry_slot.ensures)
+returns-then-e-f c =
+    let own = rw c.entry-e.ensures at c.if-e-f.true in
+    rw (eq-eqb _ _ own, c.from.ensures, c.entry-e.ensures)
 
-pub returns-else-entry_file-f-clause-buf_after : goal.returns-else-entry_file-f-clause-buf_after
+pub returns-else-e-f : goal.returns-else-e-f
 unfolding entry_applied
-returns-else-entry_file-f-clause-buf_after c =
-    let other = rw c.entry_file.ensures at c.if-entry_file-f.false in
+returns-else-e-f c =
+    let other = rw c.entry-e.ensures at c.if-e-f.false in
     rw (ne_eqb _ _ other)

@@ -13,17 +13,16 @@ use Rattle.sector.proofs.build.redo_map.Goals as goal
 pub apply_entry-requires : goal.apply_entry-requires
 apply_entry-requires c =
     let low : c.loop-i.i < count_in c.args.rec.now = omega arith in
-    (c.loop-i.invariant.3, c.requires.1, omega arith, entry_page c.args.rec.now 248 c.loop-i.i low c.requires.3)
+    (omega arith, entry_page c.args.rec.now 248 c.loop-i.i low c.requires.1)
 
 pub loop-i-preserved : goal.loop-i-preserved
 loop-i-preserved c =
     let low : c.loop-i.i < count_in c.args.rec.now = omega arith in
-    let turn = redo_turn c.args.rec.now c.args.f c.loop-i.i c.loop-i.buf low in
-    (omega arith, c.loop-i.invariant.1, rw c.apply_entry.ensures.buf_after (turn ∙ c.loop-i.invariant.2), c.apply_entry.ensures.buf_len)
+    rw c.apply_entry.ensures (redo_turn c.args.rec.now c.args.f c.loop-i.i c.loop-i.buf low ∙ c.loop-i.invariant)
 
-pub returns-clause-buf_after : goal.returns-clause-buf_after
-returns-clause-buf_after c =
+pub returns : goal.returns
+returns c =
     let over : count_in c.args.rec.now ≤ c.loop-i.i = omega arith in
     let es : List Entry = (decode_record c.args.rec.now).entries in
-    let done = sym (redo_end c.args.rec.now c.args.f c.loop-i.i c.loop-i.buf over) ∙ c.loop-i.invariant.2 in
-    λ x h q low. done ∙ rw q (header_redone x c.args.f es h (length h.map) refl low)
+    let done = sym (redo_end c.args.rec.now c.args.f c.loop-i.i c.loop-i.buf over) ∙ c.loop-i.invariant in
+    record { buf_after = λ x h q low. done ∙ rw q (header_redone x c.args.f es h (length h.map) refl low) }

@@ -2,17 +2,13 @@
 -- start.
 use mathlib.Core.Path.{◌≡◌}
 use mathlib.Core.List.{List}
-use Prim.Native.Nat.{◌-◌, ◌≤◌}
-use lib.ListN.{length, drop}
+use lib.ListN.{drop}
 use Rattle.sector.specs.Contents.{Entry}
-use Rattle.sector.specs.Decoding.{count_in, decode_record}
+use Rattle.sector.specs.Decoding.{decode_record}
 use Rattle.sector.specs.Edits.{entries_applied}
 use Rattle.sector.proofs.build.redo_map.Given as goal
 
 abbrev pub invariant-loop-i : goal.invariant-loop-i
 invariant-loop-i l =
     let es : List Entry = (decode_record l.rec).entries in
-    (l.i ≤ l.n) × (l.n ≡ count_in l.rec) × (entries_applied l.f (drop l.i es) l.buf ≡ entries_applied l.f es l.initial.buf) × (length l.buf ≡ 256)
-
-abbrev pub decreases-loop-i : goal.decreases-loop-i
-decreases-loop-i l = l.n - l.i
+    entries_applied l.f (drop l.i es) l.buf ≡ entries_applied l.f es l.initial.buf

@@ -2,5 +2,5 @@
 use Rattle.sector.proofs.EditLaws.{header_holder}
 use Rattle.sector.proofs.build.set_holder.Goals as goal
 
-pub returns-clause-buf_after : goal.returns-clause-buf_after
-returns-clause-buf_after c = λ x h q. rw q (header_holder x h c.args.k)
+pub returns : goal.returns
+returns c = record { buf_after = λ x h q. rw q (header_holder x h c.args.k) }

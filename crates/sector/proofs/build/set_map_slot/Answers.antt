@@ -2,5 +2,5 @@
 use Rattle.sector.proofs.EditLaws.{header_map}
 use Rattle.sector.proofs.build.set_map_slot.Goals as goal
 
-pub returns-clause-buf_after : goal.returns-clause-buf_after
-returns-clause-buf_after c = λ x h q low. rw q (header_map x h c.args.p c.args.slot low)
+pub returns : goal.returns
+returns c = record { buf_after = λ x h q low. rw q (header_map x h c.args.p c.args.slot low) }

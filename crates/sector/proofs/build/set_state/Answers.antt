@@ -2,5 +2,5 @@
 use Rattle.sector.proofs.EditLaws.{record_state}
 use Rattle.sector.proofs.build.set_state.Goals as goal
 
-pub returns-clause-buf_after : goal.returns-clause-buf_after
-returns-clause-buf_after c = λ r q. rw q (record_state r c.args.state)
+pub returns : goal.returns
+returns c = record { buf_after = λ r q. rw q (record_state r c.args.state) }

@@ -5,4 +5,4 @@ use Rattle.sector.proofs.build.zeros.Goals as goal
 
 pub returns : goal.returns
 unfolding zero_sector
-returns c = (refl, refl)
+returns c = refl

@@ -2,5 +2,5 @@
 use Rattle.sector.proofs.EditLaws.{record_empty}
 use Rattle.sector.proofs.fresh.empty_record.Goals as goal
 
-pub returns-clause-buf_after : goal.returns-clause-buf_after
-returns-clause-buf_after c = rw (c.requires, record_empty c.args.state)
+pub returns : goal.returns
+returns c = record { buf_after = rw c.requires (record_empty c.args.state) }

@@ -1,8 +1,7 @@
 -- The invariant of `put_entries`: what puts the entries from `i` on puts, from the start, the entries of all files.
-use mathlib.Core.Path.{◌≡◌}
 use mathlib.Core.List.{List}
-use Prim.Native.Nat.{ℕ, ◌+◌, ◌*◌, ◌-◌, ◌/◌, ◌≤◌}
-use lib.ListN.{length, drop}
+use Prim.Native.Nat.{ℕ, ◌+◌, ◌*◌, ◌≤◌}
+use lib.ListN.{drop}
 use Rattle.sector.specs.Layout.{items_offset, item_offset}
 use Rattle.sector.specs.Encoding.{file_bytes}
 use Rattle.sector.specs.Shapes.{files_of}
@@ -11,8 +10,5 @@ use Rattle.sector.proofs.fresh.put_entries.Given as goal
 
 abbrev pub invariant-loop-i : goal.invariant-loop-i
 invariant-loop-i l =
-    (l.i ≤ l.n) × (l.n ≡ length l.shape / 2) × (l.h ≤ 256 + 256 * l.i) × (length l.buf ≡ 256)
+    (l.h ≤ 256 + 256 * l.i)
     × ((w : List ℕ) → Puts (item_offset l.i) (file_bytes l.h (drop l.i (files_of l.shape))) l.buf w → Puts items_offset (file_bytes l.first (files_of l.shape)) l.initial.buf w)
-
-abbrev pub decreases-loop-i : goal.decreases-loop-i
-decreases-loop-i l = l.n - l.i

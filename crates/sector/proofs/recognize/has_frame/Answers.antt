@@ -1,20 +1,21 @@
 -- `has_frame` meets its contract: the tests of `framed`, in order.
 use mathlib.Core.Path.{sym, ◌∙◌}
+use Rattle.std.proofs.lemmas.Bool.{true≢false}
 use Rattle.sector.specs.Encoded.{framed}
 use Rattle.lists.proofs.TestLaws.{all_no, all_last, final, ◌then◌}
+use Rattle.sector.proofs.recognize.has_frame.Goals.{then-has_mark, else-has_mark}
 use Rattle.sector.proofs.recognize.has_frame.Goals as goal
 
-pub returns-then-not-has_mark : goal.returns-then-not-has_mark
+pub returns-then-zero_from : goal.returns-then-zero_from
 unfolding framed
-returns-then-not-has_mark c = sym (all_no _ 0 (sym c.has_mark.ensures ∙ c.if-not-has_mark.true))
+returns-then-zero_from c = elim c.if-has_mark.branch [
+  | then-has_mark w ↦ c.zero_from-then-zero_from.ensures ∙ sym (all_last (sym c.has_mark.ensures ∙ w.if-has_mark.true then sym w.zero_from.ensures ∙ sym w.value-is ∙ c.if-zero_from.true then final))
+  | else-has_mark w ↦ absurd (true≢false (sym c.if-zero_from.true ∙ w.value-is ∙ w.if-has_mark.false))
+]
 
-pub returns-then-not-zero_from : goal.returns-then-not-zero_from
+pub returns-else-zero_from : goal.returns-else-zero_from
 unfolding framed
-returns-then-not-zero_from c = sym (all_no _ 1 (sym c.zero_from.ensures ∙ c.if-not-zero_from.true))
-
-pub returns : goal.returns
-unfolding framed
-returns c =
-    let mark = sym c.has_mark.ensures ∙ c.if-not-has_mark.false in
-    let gap = sym c.zero_from.ensures ∙ c.if-not-zero_from.false in
-    c.zero_from-2.ensures ∙ sym (all_last (mark then gap then final))
+returns-else-zero_from c = elim c.if-has_mark.branch [
+  | then-has_mark w ↦ c.if-zero_from.false ∙ sym (all_no _ 1 (sym w.zero_from.ensures ∙ sym w.value-is ∙ c.if-zero_from.false))
+  | else-has_mark w ↦ c.if-zero_from.false ∙ sym (all_no _ 0 (sym c.has_mark.ensures ∙ w.if-has_mark.false))
+]

@@ -1,8 +1,11 @@
 -- `is_read_by_other` meets its contract: each of the four clients is looked at, unless nobody reads at all.
 use mathlib.Core.Path.{refl, sym, ◌∙◌}
-use mathlib.Core.Bool.{not, ◌&&◌, or-false}
-use borrow.Author.Tests.{eq-eqb}
+use mathlib.Core.Bool.{not, ◌&&◌}
+use borrow.Author.Tests.{tests, eq-eqb}
 use lib.Dec.{eqb}
+use Rattle.std.proofs.Common.{rules}
+use Rattle.std.proofs.lemmas.Iterator.{YieldsList-from_range}
+use Rattle.std.proofs.lemmas.Iterator.Search.{any_from_yields_List}
 use Rattle.rules.specs.Sessions.{is_reading, is_read_by_other}
 use Rattle.rules.proofs.SessionLaws.{none_reading_lem, none_read}
 use Rattle.sessions.proofs.holds.is_read_by_other.Goals as goal
@@ -15,10 +18,5 @@ returns-then-all_holds-eq0 c =
 pub returns : goal.returns
 unfolding is_read_by_other
 returns c =
-    rw (
-      c.reads_beside-3.ensures,
-      c.reads_beside-4.ensures,
-      c.reads_beside.ensures,
-      c.reads_beside-2.ensures,
-    )
-    (sym (rw (or-false (not (eqb 4 c.args.k) && is_reading c.args.s 4 c.args.f)) refl))
+    any_from_yields_List (λ j. not (eqb j c.args.k) && is_reading c.args.s j c.args.f) _ _ _ c.any.ensures.ran (YieldsList-from_range 1 5 4 refl refl)
+    (λ x b q k. search (rules, tests))

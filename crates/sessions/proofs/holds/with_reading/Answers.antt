@@ -4,4 +4,4 @@ use Rattle.sessions.proofs.holds.with_reading.Goals as goal
 
 pub returns : goal.returns
 unfolding with_bit
-returns c = rw (c.mask-m.ensures, c.wide-at.ensures.0)
+returns c = rw (c.mask.ensures, c.from.ensures)

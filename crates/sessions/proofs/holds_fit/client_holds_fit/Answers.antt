@@ -28,30 +28,39 @@ next_left w f lo =
 pub loop-left-init : goal.loop-left-init
 unfolding client_holds_fit
 loop-left-init c =
-    let w = c.number_of-left.ensures in
-    let at = c.wide-at.ensures.0 in
-    (omega arith, omega arith, rw (w.0, at) at w.1, rw (w.0, at) (omega arith), refl)
+    let word : files_read c.args.s c.args.k < 2 ^ 16 = search arith in
+    record {
+      first = omega arith;
+      last = omega arith;
+      word = word;
+      bits = rw (c.from-left.ensures, c.from.ensures) (omega arith);
+      decides = refl;
+    }
 
 pub returns-then-not-noted_fits : goal.returns-then-not-noted_fits
 returns-then-not-noted_fits c =
     let at = c.loop-left in
-    let file : at.f < 17 = some_left _ at.f _ at.invariant.2 at.invariant.1 at.invariant.3 c.loop-left-test.true in
-    sym (numbers_fail _ _ 17 at.f at.invariant.4 file (sym c.noted_fits.ensures ∙ c.if-not-noted_fits.true))
+    let h = at.invariant in
+    let file : at.f < 17 = some_left _ at.f _ h.word h.last h.bits c.loop-left-test.true in
+    sym (numbers_fail _ _ 17 at.f h.decides file (sym c.noted_fits.ensures ∙ c.if-not-noted_fits.true))
 
 pub loop-left-preserved : goal.loop-left-preserved
 loop-left-preserved c =
     let at = c.loop-left in
-    let file : at.f < 17 = some_left _ at.f _ at.invariant.2 at.invariant.1 at.invariant.3 c.loop-left-test.true in (
-      omega arith,
-      omega (arith, file),
-      at.invariant.2,
-      ap (λ (x : ℕ). x / 2 ^ 1) at.invariant.3 ∙ next_left _ at.f at.invariant.0,
-      numbers_more _ _ 17 at.f at.invariant.4 file (sym c.noted_fits.ensures ∙ c.if-not-noted_fits.false),
-    )
+    let h = at.invariant in
+    let file : at.f < 17 = some_left _ at.f _ h.word h.last h.bits c.loop-left-test.true in
+    record {
+      first = omega arith;
+      last = omega (arith, file);
+      word = h.word;
+      bits = ap (λ (x : ℕ). x / 2 ^ 1) h.bits ∙ next_left _ at.f h.first;
+      decides = numbers_more _ _ 17 at.f h.decides file (sym c.noted_fits.ensures ∙ c.if-not-noted_fits.false);
+    }
 
 pub returns : goal.returns
 unfolding is_reading
 returns c =
     let at = c.loop-left in
-    let z : bits_from (files_read c.args.s c.args.k) at.f ≡ 0 = sym at.invariant.3 ∙ c.loop-left-test.false in
-    sym (at.invariant.4 ∙ every_all _ (17 - at.f) at.f (λ g lo hi. rw (none_above _ (at.f - 1) (g - 1) z (omega (arith, lo)))))
+    let h = at.invariant in
+    let z : bits_from (files_read c.args.s c.args.k) at.f ≡ 0 = sym h.bits ∙ c.loop-left-test.false in
+    sym (h.decides ∙ every_all _ (17 - at.f) at.f (λ g lo hi. rw (none_above _ (at.f - 1) (g - 1) z (omega (arith, lo)))))

@@ -8,8 +8,5 @@ use Rattle.sessions.proofs.marks_fit.entries_held.Goals as goal
 
 pub holder-requires : goal.holder-requires
 holder-requires c =
-    let lt : c.loop-i.i < length ((view c.args.v.now).records c.args.k).entries = omega arith in (
-      c.requires.0,
-      rw c.entry_file-f.ensures
-          (entry_file_is c.args.v.now c.requires.0 c.args.k c.loop-i.i (record { client = c.requires.1; below = lt })),
-    )
+    let lt : c.loop-i.i < length ((view c.args.v.bytes.now).records c.args.k).entries = omega arith in rw c.entry.ensures
+    (entry_file_is c.args.v.bytes.now c.args.v.formed c.args.k c.loop-i.i (record { client = c.requires; below = lt }))

@@ -1,15 +1,15 @@
--- `marks_fit` meets its contract: what is left of the clients decides.
-use mathlib.Core.Path.{sym, ◌∙◌}
-use native.Mathlib.Omega.{arith}
-use Rattle.lists.proofs.TestLaws.{numbers_more, numbers_done}
+-- `marks_fit` meets its contract: each of the four clients is looked at.
+use mathlib.Core.Path.{refl}
+use mathlib.Core.Bool.{not, ◌||◌}
+use borrow.Author.Tests.{tests}
+use Rattle.std.proofs.Common.{rules}
+use Rattle.std.proofs.lemmas.Iterator.{YieldsList-from_range}
+use Rattle.std.proofs.lemmas.Iterator.Search.{all_from_yields_List}
+use Rattle.volume.specs.Volumes.{view}
+use Rattle.rules.specs.Sessions.{is_active, mark_fits}
 use Rattle.sessions.proofs.marks_fit.marks_fit.Goals as goal
 
-pub loop-k-preserved : goal.loop-k-preserved
-loop-k-preserved c = (
-  omega arith,
-  omega arith,
-  numbers_more _ _ 5 c.loop-k.k c.loop-k.invariant.2 c.loop-k-test.true (sym c.marked_fits.ensures ∙ c.if-not-marked_fits.false),
-)
-
 pub returns : goal.returns
-returns c = sym (numbers_done _ _ 5 c.loop-k.k c.loop-k.invariant.2 c.loop-k-test.false)
+returns c =
+    all_from_yields_List (λ k. not (is_active c.args.s k) || mark_fits (view c.args.v.bytes.now) k) _ _ _ c.all.ensures.ran (YieldsList-from_range 1 5 4 refl refl)
+    (λ x b q k. search (rules, tests))

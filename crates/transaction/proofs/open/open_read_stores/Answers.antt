@@ -16,7 +16,7 @@ returns-then-holder-eq0 c =
 
 pub recover-requires : goal.recover-requires
 recover-requires c =
-    λ going. (c.requires.0, holder_client c.requires.0 c.requires.1 c.requires.2 (sym c.holder-holder.ensures) c.if-holder-k.false c.if-holder-eq0.false)
+    (c.requires.0, holder_client c.requires.0 c.requires.1 c.requires.2 (sym c.holder-holder.ensures) c.if-holder-k.false c.if-holder-eq0.false)
 
 pub returns : goal.returns
 returns c =

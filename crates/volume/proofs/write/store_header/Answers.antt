@@ -7,4 +7,4 @@ use Rattle.volume.proofs.write.store_header.Goals as goal
 pub store-requires : goal.store-requires
 store-requires c =
     let h = c.header_sector-s.ensures in
-    (rw h.0 (inside c.args.v.now c.requires.0.tabled (header_place c.args.f) c.requires.1), omega (arith, h.1), c.requires.2)
+    (rw h.0 (inside c.args.v.now c.requires.0.tabled (header_place c.args.f) c.requires.1), omega (arith, h.1))

@@ -6,4 +6,4 @@ use Rattle.volume.proofs.write.store_record.Goals as goal
 
 pub store-requires : goal.store-requires
 store-requires c =
-    (rw c.wide.ensures.0 (inside c.args.v.now c.requires.0.tabled (record_place c.args.k) (c.requires.1.low, c.requires.1.high)), omega (arith, c.wide.ensures.1), c.requires.2)
+    (rw c.from.ensures (inside c.args.v.now c.requires.0.tabled (record_place c.args.k) (c.requires.1.low, c.requires.1.high)), omega (arith, c.ranges.k.fits, c.from.ensures))

@@ -6,4 +6,4 @@ use Rattle.volume.proofs.write.store_slot.Goals as goal
 pub store-requires : goal.store-requires
 store-requires c =
     let h = c.header_sector.ensures in
-    (rw (h.0, c.wide.ensures.0) (slot_inside c.args.v.now c.requires.0.tabled c.args.f c.args.r c.requires.1 c.requires.2), omega (arith, h.1, c.wide.ensures.1), c.requires.3)
+    (rw (h.0, c.from.ensures) (slot_inside c.args.v.now c.requires.0.tabled c.args.f c.args.r c.requires.1 c.requires.2), omega (arith, h.1, c.ranges.r.fits, c.from.ensures))

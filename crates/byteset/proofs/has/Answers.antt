@@ -1,7 +1,0 @@
--- `byteset::has` meets its contract: the code's expression is that of `has_byte`.
-use Rattle.byteset.specs.Set.{has_byte}
-use Rattle.byteset.proofs.has.Goals as goal
-
-pub returns : goal.returns
-unfolding has_byte
-returns c = rw (c.mask.ensures, c.wide-n.ensures.0)

@@ -1,9 +1,0 @@
--- `record` meets its contract: the record's sector is inside a well-formed volume.
-use native.Mathlib.Omega.{arith}
-use Rattle.volume.specs.Places.{record_place}
-use Rattle.volume.proofs.ReadLaws.{inside}
-use Rattle.volume.proofs.read.record.Goals as goal
-
-pub part-requires : goal.part-requires
-part-requires c =
-    (rw c.wide.ensures.0 (inside c.args.v.now c.requires.0.tabled (record_place c.args.k) (c.requires.1.low, c.requires.1.high)), omega (arith, c.wide.ensures.1))

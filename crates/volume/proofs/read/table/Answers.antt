@@ -1,9 +1,0 @@
--- `table` meets its contract: sector 0 is inside a volume whose table is well formed.
-use borrow.Author.Rules.{rules}
-use Rattle.volume.specs.Places.{table_place}
-use Rattle.volume.proofs.ReadLaws.{inside}
-use Rattle.volume.proofs.read.table.Goals as goal
-
-pub part-requires : goal.part-requires
-part-requires c =
-    (inside c.args.v.now c.requires table_place tt, search rules)
