@@ -1,2 +1,3 @@
 pub mod PassLaws
 pub mod PassExamples
+pub mod CallLaws

@@ -4,7 +4,7 @@ use mathlib.Core.Path.{◌≡◌, refl}
 use mathlib.Core.List.{List, [], ◌∷◌, ◌++◌, map}
 use Prim.Native.Nat.{ℕ}
 use lib.ListN.{replicate}
-use Rattle.std.specs.Prelude.{Result, Ok, Err}
+use Rattle.std.specs.Prelude.{Result, Ok, Err, is_ok, true, false}
 use Rattle.sector.specs.Sectors.{store_at}
 use Rattle.volume.specs.Volumes.{Volume}
 use Rattle.volume.specs.Stores.{Store}
@@ -24,6 +24,10 @@ crash made = Err (record { made = made })
 -- With stores left, with the last one, with none, and with none from the start. A crash counts no store.
 counts : map counted (new_run 2 ∷ run 2 1 ∷ run 2 2 ∷ new_run 0 ∷ []) ≡ going 2 1 ∷ going 2 2 ∷ crash 2 ∷ crash 0 ∷ []
 counts = refl
+
+-- So a run goes on with stores left, and with the last one, but not with none.
+goes_on_lem : map (λ r. is_ok (counted r)) (new_run 2 ∷ run 2 1 ∷ run 2 2 ∷ new_run 0 ∷ []) ≡ true ∷ true ∷ false ∷ false ∷ []
+goes_on_lem = refl
 
 -- Two stores: sector 0 gets ones, sector 1 twos.
 abbrev page : ℕ → Volume
