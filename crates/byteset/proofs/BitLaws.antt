@@ -14,7 +14,6 @@ use lib.Dec.{eqb, ltb}
 use lib.Pow.{pow_pos}
 use Rattle.std.specs.Int.{bit_at}
 use Rattle.std.proofs.lemmas.Nat.Bits.{and_pow, bit_at_lowest, bit_at-suc, bit_at-pow_same, bit_at-pow_other, bit_at_above}
-use Rattle.std.proofs.lemmas.Nat.{shr_split, mod_below}
 use Rattle.lists.proofs.CaseLaws.{by_test, by_equal}
 use Rattle.lists.proofs.SearchLaws.{or_true}
 use Rattle.lists.proofs.TestLaws.{not_and, or_zero}
@@ -41,12 +40,9 @@ bit_same w k = bit_or_lem w (2 ^ k) k ∙ or_true (has_bit w k) _ (bit_is (2 ^ k
 pub bit_other : (w i k : ℕ) → i ≢ k → has_bit (bit_or w (2 ^ i)) k ≡ has_bit w k
 bit_other w i k n = bit_or_lem w (2 ^ i) k ∙ rw (bit_is (2 ^ i) k, bit_at-pow_other i k (λ e. n (sym e))) (or-false (has_bit w k))
 
--- A word that is 0 without its i lowest bits has no bit from i on.
-pub none_above : (w i j : ℕ) → w / 2 ^ i ≡ 0 → i ≤ j → has_bit w j ≡ false
-none_above w i j z h =
-    let low : 0 * 2 ^ i + w % 2 ^ i ≡ w = ap (λ (x : ℕ). x * 2 ^ i + w % 2 ^ i) (sym z) ∙ shr_split w i in
-    let small : w < 2 ^ i = omega (arith, low, mod_below w (2 ^ i) (pow_pos i)) in
-    bit_is w j ∙ rw (bit_at_above w i j small h)
+-- A word of i bits has none from i on.
+pub none_above : (w i j : ℕ) → w < 2 ^ i → i ≤ j → has_bit w j ≡ false
+none_above w i j small h = bit_is w j ∙ rw (bit_at_above w i j small h)
 
 -- A word with bit i is at least 2 ^ i.
 pub has_le : (w i : ℕ) → has_bit w i ≡ true → 2 ^ i ≤ w

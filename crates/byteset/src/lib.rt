@@ -12,7 +12,7 @@ fn mask(x: usize) -> u64
     1u64 << (x % 64)
 }
 
-// How many bits of the word are set below its lowest clear bit: 64 where none is clear.
+// How many bits of the word are set below its lowest clear bit: 64 where none is clear, as std's `trailing_ones` answers.
 fn low_ones(w: u64) -> usize
     ensures { LowestFailing (has_bit w) 64 result }
 {
@@ -28,7 +28,7 @@ pub struct BitSet<const N: usize> {
 }
 
 impl<const N: usize> BitSet<N> {
-    // The empty set.
+    // The empty set. Ruled out: a set with a number in each word (`must-fail/not_empty_at_first`); the set of all numbers.
     pub fn new() -> Self
         ensures { result.words ≡ replicate N 0 }
     {
@@ -65,6 +65,7 @@ impl BitSet<4> {
         ensures below { IfSome result (λ r. r < n) }
     {
         let mut before = mask(start) - 1;
+        // By number, which the answer is made of: `iter().enumerate().skip(start / 64)` only gives it back beside the word.
         for i in start / 64..4 {
             let ones = low_ones(self.words[i] | before);
             if ones < 64 {

@@ -1,6 +1,6 @@
 -- How a call ends, put together: a refusal is the call's, and the stores of its plan under the budget are what it leaves and
 -- answers. The definition of a call is taken apart at its two choices, the refusal and the budget.
-use mathlib.Core.Path.{◌≡◌, refl, ap, ◌∙◌}
+use mathlib.Core.Path.{◌≡◌, refl, sym, ap, ◌∙◌}
 use mathlib.Core.List.{List}
 use Prim.Native.Nat.{ℕ, zero, suc, ◌≤◌, ◌<◌}
 use native.Mathlib.Nat.{not-suc-le-zero}
@@ -20,7 +20,7 @@ use Rattle.rules.specs.Plans.{Call, Query, plan, session_after}
 use Rattle.rules.specs.Refusals.{tests, query_tests}
 use Rattle.rules.specs.Calls.{call_by, call, query_by, query}
 use Rattle.rules.specs.Spare.{spare_tests, spare_by, spare}
-use Rattle.std.specs.Prelude.{Result, Ok, Err}
+use Rattle.std.specs.Prelude.{Result, Ok, Err, is_err}
 use Rattle.lists.specs.Lists.{when◌then◌else◌}
 use Rattle.lists.proofs.CaseLaws.{by_test}
 use Rattle.stores.specs.declared.Run.{Run}
@@ -58,15 +58,28 @@ module _ (v : Volume) (s : Session) (c : Call) (budget : ℕ) (e : 0 ≡ first (
       when ltb budget (length xs) then Err (record { made = length (take budget xs) })
       else Ok (record { budget = budget; made = length (take budget xs) })
 
-  ended_run : ended_by run (session_after (view v) s c) (cut_at v xs budget) ≡ call v s c budget
+  -- A run that made so many stores, and crashed where there were more, ends as the call does.
+  abbrev stores_of_run : Result Run Crashed → ℕ
+  stores_of_run (Ok r) = r.made
+  stores_of_run (Err d) = d.made
+
+  ended_by_lem : (w : Volume) (q : Result Run Crashed) → w ≡ cut_at v xs budget → stores_of_run q ≡ length (take budget xs)
+      → is_err q ≡ ltb budget (length xs) → ended_by q (session_after (view v) s c) w ≡ call v s c budget
   unfolding call
+  ended_by_lem w (Err d) left count over =
+      let more : budget < length xs = ltb-true budget (length xs) (sym over) in
+      let all : d.made ≡ budget = count ∙ length-take-le budget xs (omega arith) in
+      rw (← e, lt-leb (length xs) budget more, all, left)
+  ended_by_lem w (Ok r) left count over =
+      let room : length xs ≤ budget = ltb-false budget (length xs) (sym over) in
+      let all : take budget xs ≡ xs = take_all budget xs room in
+      let made : r.made ≡ length xs = count ∙ ap length all in
+      rw (← e, le-leb (length xs) budget room, made, left)
+
+  ended_run : ended_by run (session_after (view v) s c) (cut_at v xs budget) ≡ call v s c budget
   ended_run = by_test (ltb budget (length xs))
-      (λ g.
-      let more : budget < length xs = ltb-true budget (length xs) g in
-      rw (← e, g, lt-leb (length xs) budget more, length-take-le budget xs (omega arith)))
-      (λ g.
-      let room : length xs ≤ budget = ltb-false budget (length xs) g in
-      rw (← e, g, le-leb (length xs) budget room, take_all budget xs room))
+      (λ g. rw g (ended_by_lem _ (Err (record { made = length (take budget xs) })) refl refl (sym g)))
+      (λ g. rw g (ended_by_lem _ (Ok (record { budget = budget; made = length (take budget xs) })) refl refl (sym g)))
 
   pub ended_call : (w : Volume) (q : Result Run Crashed) → UpdatesMade v (Ok (new_run budget)) (plan (view v) s c) w q
       → ended_by q (session_after (view v) s c) w ≡ call v s c budget

@@ -11,9 +11,9 @@ use Rattle.volume.specs.Lawful.{header_fits}
 use Rattle.volume.specs.Volumes.{Volume, view}
 use Rattle.volume.specs.Sound.{sound}
 use Rattle.volume.specs.WellFormed.{WellFormed}
-use Rattle.volume.proofs.ReadLaws.{few_clients, few_files}
+use Rattle.volume.proofs.ReadLaws.{few_files}
+use Rattle.volume.proofs.SoundLaws.{Fine, sound_lawful}
 use Rattle.volume.proofs.WellFormedLaws.{sound_formed}
-use Rattle.volume.proofs.SoundLaws.{Fine, fine_sound, sound_lawful}
 use Rattle.rules.specs.Sessions.{is_active, is_reading}
 use Rattle.rules.specs.Plans.{Call, begin, open_file, open_read, commit, abort, look_page}
 use Rattle.rules.specs.Refusals.{held_by_other, look_tests, tests, query_tests}
@@ -33,57 +33,28 @@ same_tests v s k = refl
 -- A client that may begin.
 pub record Begins (v : Volume) (s : Session) (k : ℕ) : Type 0 where
   pub client : IsClient (view v).table k
-  pub few : k ≤ 4
   pub off : is_active s k ≡ false
 
 pub begins : (v : Volume) (s : Session) (k : ℕ) → 0 ≡ first (tests (sound v) (view v) s (begin k)) → Begins v s k
-begins v s k e =
-    let w = (passed v s (begin k) (sym e)).allowed in
-    record {
-      client = begin_client w;
-      few = omega (arith, w.high, few_clients v (call_formed v s (begin k) e).tabled);
-      off = w.off;
-    }
+begins v s k e = let w = (passed v s (begin k) (sym e)).allowed in record { client = begin_client w; off = w.off }
 
 -- A client that is active.
 pub record Acts (v : Volume) (k : ℕ) : Type 0 where
   pub client : IsClient (view v).table k
-  pub few : k ≤ 4
   pub running : ((view v).records k).state ≡ 1
 
 pub acts : (v : Volume) (s : Session) (k : ℕ) → 0 ≡ first (tests (sound v) (view v) s (commit k)) → Acts v k
-acts v s k e =
-    let w = (passed v s (commit k) (sym e)).allowed in
-    record {
-      client = act_client w;
-      few = w.active.high;
-      running = w.running.state;
-    }
+acts v s k e = let w = (passed v s (commit k) (sym e)).allowed in record { client = act_client w; running = w.running.state }
 
 -- A file that may be opened, for writing or for reading.
 pub record Opens (v : Volume) (s : Session) (k f : ℕ) : Type 0 where
-  pub sound : sound v ≡ true
   pub formed : WellFormed v
-  pub low : 1 ≤ k
-  pub high : k ≤ 4
   pub file : IsFile (view v).table f
-  pub few : f ≤ 16
   pub header : header_fits (view v).records (view v).table f ((view v).headers f) ≡ true
   pub free : held_by_other (view v) s k f ≡ false
 
 may_open : (v : Volume) (s : Session) (k f : ℕ) → Fine v → MayOpenRead (view v) s k f → Opens v s k f
-may_open v s k f fine w =
-    let few : f ≤ 16 = omega (arith, w.file.high, few_files v fine.formed.tabled) in
-    record {
-      sound = fine_sound v fine;
-      formed = fine.formed;
-      low = w.act.active.low;
-      high = w.act.active.high;
-      file = w.file;
-      few = few;
-      header = open_header w;
-      free = w.free;
-    }
+may_open v s k f fine w = record { formed = fine.formed; file = w.file; header = open_header w; free = w.free }
 
 pub opens : (v : Volume) (s : Session) (k f : ℕ) → 0 ≡ first (tests (sound v) (view v) s (open_file k f)) → Opens v s k f
 opens v s k f e = let p = passed v s (open_file k f) (sym e) in may_open v s k f p.fine p.allowed.either
@@ -95,9 +66,10 @@ opens_read v s k f e = let p = passed v s (open_read k f) (sym e) in may_open v 
 pub unread : (v : Volume) (s : Session) (k f : ℕ) → 0 ≡ first (tests (sound v) (view v) s (open_read k f))
     → is_reading s k f ≡ true → ((view v).headers f).holder ≡ 0
 unread v s k f e on =
-    let w = (passed v s (open_read k f) (sym e)).allowed in
-    let o = opens_read v s k f e in
-    (w.act.ready.reads k f (record { low = o.low; high = o.high; first = w.file.low; last = o.few; on = on })).free
+    let p = passed v s (open_read k f) (sym e) in
+    let w = p.allowed in
+    let last : f ≤ 16 = omega (arith, w.file.high, few_files v p.fine.formed.tabled) in
+    (w.act.ready.reads k f (record { low = w.act.active.low; high = w.act.active.high; first = w.file.low; last = last; on = on })).free
 
 -- A page that a look finds.
 pub record Looks (v : Volume) (f p : ℕ) : Type 0 where

@@ -2,14 +2,14 @@
 // then it makes the stores of its plan, as many as the budget allows.
 // A refusal hands the session back, too, so a call ends in a `match` and not by `?`: that would take a second function for each
 // call, and a closure for the stores would take a contract of its own.
-#![tactic(auto, using(crate::proofs::FactLaws::begins, crate::proofs::FactLaws::acts, crate::proofs::FactLaws::call_formed, crate::proofs::FactLaws::same_tests, crate::proofs::FactLaws::looks, rules::proofs::SpareLaws::may_ask, checks::proofs::VerdictLaws::sound_files, checks::proofs::WriteVerdictLaws::read_formed))]
+#![tactic(auto, using(crate::proofs::FactLaws::begins, crate::proofs::FactLaws::acts, crate::proofs::FactLaws::call_formed, crate::proofs::FactLaws::same_tests, crate::proofs::FactLaws::looks, crate::proofs::AnswerLaws::refused_query, crate::proofs::AnswerLaws::refused_count))]
 
 mod reply;
 
 ghost use Rattle.std.specs.Prelude.{◌≡◌, true, ◌≤◌, ◌+◌, ◌*◌, length, IfOk};
 ghost use Rattle.interface.specs.Answers.{query_answer_of, count_answer_of};
 ghost use Rattle.sector.specs.Contents.{Table};
-ghost use Rattle.volume.specs.Places.{IsFile, slot_place, sector_of};
+ghost use Rattle.volume.specs.Places.{slot_place, sector_of};
 ghost use Rattle.volume.specs.Views.{View};
 ghost use Rattle.volume.specs.Volumes.{view};
 ghost use Rattle.volume.specs.Sound.{sound};
@@ -21,8 +21,8 @@ ghost use Rattle.calls.specs.Replies.{replied};
 
 use crate::reply::{end, refuse};
 use checks::Target;
-use interface::{Refusal, Reply, Session};
-use volume::{FormedVolume, SoundVolume};
+use interface::{ClientNumber, Refusal, Reply, Session};
+use volume::VolumeFile;
 
 // Starts a transaction of the client: recovers what an earlier one left, and opens its record. Ruled out: a session
 // handed back without the mark; an orphaned transaction's files left held (`recovery/must-fail/idle_at_once`).
@@ -31,9 +31,9 @@ pub fn begin(volume: &mut [u8], session: Session, client: u8, budget: u8) -> Rep
 {
     match checks::check_begin(volume, session, client) {
         Err(r) => refuse(session, r),
-        Ok(()) => {
+        Ok(k) => {
             let run = transaction::begin_stores(volume, client, budget);
-            end(run, sessions::set_active(session, client, true))
+            end(run, sessions::set_active(session, k, true))
         }
     }
 }
@@ -46,22 +46,22 @@ pub fn open(volume: &mut [u8], session: Session, client: u8, file: u8, budget: u
 {
     match checks::check_open(volume, session, client, file) {
         Err(r) => refuse(session, r),
-        Ok(()) => {
+        Ok(o) => {
+            let next = sessions::without_reading(session, o.client, o.file.in_session());
             let run = transaction::open_stores(volume, client, file, budget);
-            end(run, sessions::without_reading(session, client, file))
+            end(run, next)
         }
     }
 }
 
-// The session with client k's reading hold of file f, unless k holds the file already.
-fn with_hold(v: SoundVolume<'_>, s: Session, k: u8, f: u8) -> Session
-    requires { (1 ≤ k) × (k ≤ 4) × IsFile (view v.bytes.now).table f }
-    ensures { result ≡ session_after (view v.entry.bytes.now) s (open_read k f) }
+// The session with client k's reading hold of the file, unless k holds it already.
+fn with_hold(x: VolumeFile<'_>, s: Session, k: ClientNumber) -> Session
+    ensures { result ≡ session_after (view x.entry.volume.bytes.now) s (open_read k.number x.entry.number) }
 {
-    if checks::holds_either(v, s, k, f) {
+    if checks::holds_either(x, s, k) {
         return s;
     }
-    sessions::with_reading(s, k, f)
+    sessions::with_reading(s, k, x.in_session())
 }
 
 // Gives the file to the client for reading, after the recovery of an orphaned holder. Ruled out: no recovery
@@ -72,8 +72,8 @@ pub fn open_read(volume: &mut [u8], session: Session, client: u8, file: u8, budg
 {
     match checks::check_open_read(volume, session, client, file) {
         Err(r) => refuse(session, r),
-        Ok(()) => {
-            let next = with_hold(SoundVolume { bytes: volume }, session, client, file);
+        Ok(o) => {
+            let next = with_hold(o.file, session, o.client);
             let run = transaction::open_read_stores(volume, client, file, budget);
             end(run, next)
         }
@@ -85,22 +85,20 @@ pub fn open_read(volume: &mut [u8], session: Session, client: u8, file: u8, budg
 pub fn read(volume: &[u8], session: Session, client: u8, file: u8, page: u8) -> Result<u16, Refusal>
     ensures { query_answer_of result ≡ query volume.now session (read_page client file page) }
 {
-    let v = checks::check_read(volume, session, client, file, page)?.formed();
-    let slot = slots::read_slot(v, client, file, page);
-    Ok(slot_sector(v, file, slot))
+    let x = checks::check_read(volume, session, client, file, page)?;
+    let slot = slots::read_slot(x);
+    Ok(slot_sector(x.of_file(), slot))
 }
 
-// The sector of slot r of file f.
-fn slot_sector(v: FormedVolume<'_>, f: u8, r: u8) -> u16
-    requires { IsFile (view v.bytes.now).table f }
-    ensures { result ≡ sector_of (view v.entry.bytes.now).table (slot_place f r) }
+// The sector of slot r of the file.
+fn slot_sector(x: VolumeFile<'_>, r: u8) -> u16
+    ensures { result ≡ sector_of (view x.entry.volume.bytes.now).table (slot_place x.entry.number r) }
 {
     // `as`, since it fits by proof: `try_from` would only add an `unwrap`.
-    let h = v.tabled().header_sector(f);
-    (h + 1 + usize::from(r)) as u16
+    (x.header_sector() + 1 + usize::from(r)) as u16
 }
 
-// The sector that the answer to a question names, as a part of the volume, or an empty part for a refusal.
+// The sector that the answer to a question names, as a part of the volume. That a refusal gives an empty part is a rule of the papers.
 fn part_of(v: &[u8], answer: Result<u16, Refusal>) -> &[u8]
     requires { IfOk answer (λ n. 256 * n + 256 ≤ length v.now) }
     ensures { result.now ≡ part_of v.now (query_answer_of answer) }
@@ -129,7 +127,7 @@ pub fn look(volume: &[u8], file: u8, page: u8) -> Result<u16, Refusal>
 {
     let v = checks::check_look(volume, file, page)?;
     let slot = slots::decided_slot(v, file, page);
-    Ok(slot_sector(v.formed(), file, slot))
+    Ok(slot_sector(v.formed().tabled().file(file), slot))
 }
 
 // The page itself: the part of the volume that `look` names, or an empty part where it refuses. Ruled out: another page's
@@ -146,8 +144,8 @@ pub fn look_part(volume: &[u8], file: u8, page: u8) -> &[u8]
 pub fn spare(volume: &[u8], file: u8) -> Result<u8, Refusal>
     ensures { count_answer_of result ≡ Spare.spare volume.now file }
 {
-    let v = checks::check_spare(volume, file)?;
-    Ok(sector::header_spare(v.header(file)))
+    let x = checks::check_spare(volume, file)?;
+    Ok(sector::header_spare(x.header()))
 }
 
 // Writes 256 bytes as the page, in the client's transaction. Ruled out: a slot chosen by the map alone
@@ -187,9 +185,10 @@ pub fn commit(volume: &mut [u8], session: Session, client: u8, budget: u8) -> Re
 {
     match checks::check_active(volume, session, client) {
         Err(r) => refuse(session, r),
-        Ok(_) => {
-            let made = transaction::commit_stores(volume, client, budget);
-            end(made, sessions::without_client(session, client))
+        Ok(c) => {
+            let next = sessions::without_client(session, c.client.in_session());
+            let run = transaction::commit_stores(volume, client, budget);
+            end(run, next)
         }
     }
 }
@@ -201,9 +200,10 @@ pub fn abort(volume: &mut [u8], session: Session, client: u8, budget: u8) -> Rep
 {
     match checks::check_active(volume, session, client) {
         Err(r) => refuse(session, r),
-        Ok(_) => {
+        Ok(c) => {
+            let next = sessions::without_client(session, c.client.in_session());
             let run = transaction::abort_stores(volume, client, budget);
-            end(run, sessions::without_client(session, client))
+            end(run, next)
         }
     }
 }

@@ -9,6 +9,7 @@ use Rattle.volume.specs.Sound.{sound}
 use Rattle.rules.specs.Plans.{Call, Query}
 use Rattle.rules.specs.Calls.{After, call, query}
 use Rattle.listing.specs.declared.ListError.{ListError}
+use Rattle.capi.specs.declared.pass.Kind.{Kind}
 use Rattle.capi.specs.declared.VolSession.{VolSession}
 use Rattle.capi.specs.declared.VolReply.{VolReply}
 use Rattle.capi.specs.declared.VolAnswer.{VolAnswer}
@@ -27,6 +28,14 @@ abbrev pub has_other_bits : VolSession → Bool
 has_other_bits c = ltb 15 c.active
 
 -- ------------------------------------------------------------------ answers
+-- The byte of a kind.
+abbrev pub kind_number : Kind → ℕ
+kind_number Kind.Done = 0
+kind_number Kind.Cut = 1
+kind_number Kind.Refused = 2
+kind_number Kind.Sector = 3
+kind_number Kind.Count = 4
+
 -- A call's answer.
 abbrev pub passed_answer : Answer → VolAnswer
 passed_answer (done n) = record { kind = 0; number = n }

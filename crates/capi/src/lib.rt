@@ -59,7 +59,9 @@ pub extern "C" fn vol_is_sound(volume: &[u8]) -> u64
     u64::from(soundness::is_sound(volume))
 }
 
-// Starts a transaction of the client.
+// Starts a transaction of the client. `vol_commit` and `vol_abort` are like it, and stay functions of their own:
+// C calls all three by name. The same `match` stands in each call here: a function over a closure would repeat the call's contract for
+// the closure, and be no plainer.
 #[unsafe(no_mangle)]
 pub extern "C" fn vol_begin(
     volume: &mut [u8],
@@ -75,7 +77,8 @@ pub extern "C" fn vol_begin(
     }
 }
 
-// Gives the file to the client for writing.
+// Gives the file to the client for writing. `vol_open_read` is like it, and stays a function of its own: C calls both
+// by name.
 #[unsafe(no_mangle)]
 pub extern "C" fn vol_open(
     volume: &mut [u8],
@@ -202,5 +205,7 @@ pub extern "C" fn vol_list(volume: &[u8], out: &mut [u8]) -> u64
     ensures value { result ≡ listed_length (listed volume.now out.old).outcome }
     ensures out_after { out.new ≡ (listed volume.now out.old).out }
 {
+    // 0 says that nothing was written, as `include/volume.h` has it: C has no `Option`.
+    // `as`, since there is no `From` of these types, and `try_from` would only add an `unwrap`: a length fits by proof.
     listing::list(volume, out).unwrap_or(0) as u64
 }

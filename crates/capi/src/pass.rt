@@ -1,10 +1,36 @@
-// Sessions, replies and answers, as C gets them and gives them. The kinds 0 to 4 stay numbers: `include/volume.h` has them so.
+// Sessions, replies and answers, as C gets them and gives them.
 ghost use Rattle.std.specs.Prelude.{◌≡◌};
 ghost use Rattle.interface.specs.Answers.{refusal_number, answer_of, query_answer_of, count_answer_of, format_answer_of};
-ghost use Rattle.capi.specs.Passing.{session_from, passed_session, passed_answer, passed_query, passed_count, passed_format, other_bits_refused, reply_with, session_given};
+ghost use Rattle.capi.specs.Passing.{kind_number, session_from, passed_session, passed_answer, passed_query, passed_count, passed_format, other_bits_refused, reply_with, session_given};
 
 use crate::{VolAnswer, VolReply, VolSession};
 use interface::{Outcome, Refusal, Reply, Session};
+
+// The kind of a reply or an answer, by its byte: the words are those of `include/volume.h`. The structs that C gets have the
+// byte. `replay` has another, which numbers the entries of a transcript. Ruled out: a call that is done told as one that was cut
+// (`must-fail/done_told_as_cut`); a kind above 4.
+#[derive(Clone, Copy, Debug, PartialEq, Eq)]
+enum Kind {
+    // VOL_DONE: the call is done.
+    Done = 0,
+    // VOL_CUT: the budget ran out.
+    Cut = 1,
+    // VOL_REFUSED: it was refused.
+    Refused = 2,
+    // VOL_SECTOR: a question answered a sector.
+    Sector = 3,
+    // VOL_COUNT: a question answered a count.
+    Count = 4,
+}
+
+impl From<Kind> for u8 {
+    ghost from_gives = { λ k n. n ≡ kind_number k };
+
+    fn from(k: Kind) -> u8 {
+        // `as` hands back the variant's number; a `match` would write the numbers again.
+        k as u8
+    }
+}
 
 // The session that C gives.
 impl From<VolSession> for Session {
@@ -34,7 +60,7 @@ impl From<Refusal> for VolAnswer {
 
     fn from(r: Refusal) -> VolAnswer {
         VolAnswer {
-            kind: 2,
+            kind: Kind::Refused.into(),
             number: u16::from(u8::from(r)),
         }
     }
@@ -47,11 +73,11 @@ impl From<Result<Outcome, Refusal>> for VolAnswer {
     fn from(o: Result<Outcome, Refusal>) -> VolAnswer {
         match o {
             Ok(Outcome::Done(n)) => VolAnswer {
-                kind: 0,
+                kind: Kind::Done.into(),
                 number: u16::from(n),
             },
             Ok(Outcome::Crashed(n)) => VolAnswer {
-                kind: 1,
+                kind: Kind::Cut.into(),
                 number: u16::from(n),
             },
             Err(r) => r.into(),
@@ -60,12 +86,17 @@ impl From<Result<Outcome, Refusal>> for VolAnswer {
 }
 
 // A question's answer.
+// It and the count's stay two: the type of the answer picks the kind, so a generic one would need a trait for that, and be no
+// plainer.
 impl From<Result<u16, Refusal>> for VolAnswer {
     ghost from_gives = { λ o x. x ≡ passed_query (query_answer_of o) };
 
     fn from(o: Result<u16, Refusal>) -> VolAnswer {
         match o {
-            Ok(n) => VolAnswer { kind: 3, number: n },
+            Ok(n) => VolAnswer {
+                kind: Kind::Sector.into(),
+                number: n,
+            },
             Err(r) => r.into(),
         }
     }
@@ -78,7 +109,7 @@ impl From<Result<u8, Refusal>> for VolAnswer {
     fn from(o: Result<u8, Refusal>) -> VolAnswer {
         match o {
             Ok(n) => VolAnswer {
-                kind: 4,
+                kind: Kind::Count.into(),
                 number: u16::from(n),
             },
             Err(r) => r.into(),
@@ -92,7 +123,10 @@ impl From<Result<(), Refusal>> for VolAnswer {
 
     fn from(o: Result<(), Refusal>) -> VolAnswer {
         match o {
-            Ok(()) => VolAnswer { kind: 0, number: 0 },
+            Ok(()) => VolAnswer {
+                kind: Kind::Done.into(),
+                number: 0,
+            },
             Err(r) => r.into(),
         }
     }

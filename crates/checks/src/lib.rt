@@ -1,7 +1,10 @@
-// The tests of the calls: each answers the first refusal that applies, or that none does.
+// The tests of the calls: each answers the first refusal that applies, or hands on what it found, for the call to go on with.
+// Volume, session and client come as three, as a call has them: `check_client` makes them one `Caller`. Which client, file and page
+// are handed on is said against the arguments, so each says it.
 #![tactic(auto)]
 
 mod call;
+mod caller;
 mod look;
 mod open;
 mod page;
@@ -9,6 +12,7 @@ mod spare;
 mod write;
 
 pub use call::{check_active, check_begin};
+pub use caller::{Caller, Opening};
 pub use look::check_look;
 pub use open::{check_open, check_open_read};
 pub use page::{check_read, holds_either};

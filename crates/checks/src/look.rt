@@ -1,5 +1,5 @@
 // The tests of look.
-#![tactic(auto, using(volume::proofs::WellFormedLaws::sound_formed), unfolding(lists::specs::Lists::first))]
+#![tactic(auto, unfolding(lists::specs::Lists::first))]
 
 ghost use Rattle.std.specs.Prelude.{◌≡◌, IfOk};
 ghost use Rattle.lists.specs.Lists.{first};
@@ -8,7 +8,6 @@ ghost use Rattle.volume.specs.Sound.{sound};
 ghost use Rattle.rules.specs.Refusals.{look_tests};
 ghost use Rattle.checks.specs.Verdicts.{number_of};
 
-use crate::call::is_file;
 use crate::page::check_page;
 use interface::Refusal;
 use soundness::sound_volume;
@@ -21,9 +20,7 @@ pub fn check_look(v: &[u8], f: u8, p: u8) -> Result<SoundVolume<'_>, Refusal>
     ensures same { IfOk result (λ w. w.bytes.now ≡ v.now) }
 {
     let w = sound_volume(v).ok_or(Refusal::NotSound)?;
-    if !is_file(w.formed().tabled(), f) {
-        return Err(Refusal::NoFile);
-    }
-    check_page(w, f, p)?;
+    let x = w.formed().tabled().find_file(f).ok_or(Refusal::NoFile)?;
+    check_page(x, p)?;
     Ok(w)
 }

@@ -1,28 +1,16 @@
--- Lines that set the session or look at the volume, by the tests of their definitions.
+-- Lines that change a byte of the volume or show a sector, by the tests of their definitions.
 use mathlib.Core.Path.{◌≡◌}
 use mathlib.Core.Bool.{true, false}
 use Prim.Native.Nat.{ℕ, ◌/◌, ◌≤◌, ◌<◌}
 use borrow.Author.Tests.{lt-ltb, le-ltb}
 use lib.ListN.{length, set}
 use Rattle.std.specs.Prelude.{Option, Some, None}
-use Rattle.interface.specs.declared.Session.{Session}
-use Rattle.rules.specs.Sessions.{with_reading}
 use Rattle.sector.specs.Contents.{Bytes}
 use Rattle.sector.specs.Sectors.{sector}
 use Rattle.volume.specs.Volumes.{Volume}
 use Rattle.script.specs.Fields.{argument}
 use Rattle.commands.specs.Lines.{byte_argument}
-use Rattle.commands.specs.Inspect.{is_hold, reading_added, Poked, poked, dumped}
-
--- k and f are the first two arguments.
-module _ (s : Session) (l : Bytes) (k f : ℕ) (e : k ≡ byte_argument 1 l) (g : f ≡ byte_argument 2 l) where
-  pub hold_added : is_hold k f ≡ true → Some (with_reading s k f) ≡ reading_added s l
-  unfolding reading_added
-  hold_added h = rw (← e, ← g, h)
-
-  pub hold_missing : is_hold k f ≡ false → None ≡ reading_added s l
-  unfolding reading_added
-  hold_missing h = rw (← e, ← g, h)
+use Rattle.commands.specs.Inspect.{Poked, poked, dumped}
 
 -- `at` is the first argument.
 module _ (v : Volume) (l : Bytes) (at : ℕ) where

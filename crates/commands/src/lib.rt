@@ -22,6 +22,12 @@ pub struct Command {
     pub budget: u8,
 }
 
+impl Command {
+    // The budget of a line that leaves it out: more stores than any call makes.
+    // It is no `Option`: the papers say that a budget left out is 255.
+    pub const BUDGET: u8 = 255;
+}
+
 // What a command answered.
 #[derive(Clone, Copy, Debug, PartialEq, Eq)]
 pub enum Told {

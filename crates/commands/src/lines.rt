@@ -5,27 +5,29 @@ ghost use Rattle.std.specs.Prelude.{◌≡◌, ◌≤◌, length};
 ghost use Rattle.volume.specs.Format;
 ghost use Rattle.format.specs.Outcomes.{formatted};
 ghost use Rattle.atomicity.specs.Model.{Model};
-ghost use Rattle.script.specs.Fields;
 ghost use Rattle.commands.specs.Commands.{run_of, IsPerformed};
 ghost use Rattle.commands.specs.Lines.{byte_argument, budget_argument, file_place, budget_place, line_command, line_step, data_length, shape_length, shape_of, ramp};
 
 use crate::{Action, Command, Performed, perform};
 use interface::{Refusal, Session};
+use script::Script;
 use script::fields::{argument, arguments};
 
 // Argument n as a byte.
+// One that is missing or too large is 255, as the definition has it: of a line that is understood, only arguments that its call
+// doesn't take.
 pub fn byte_argument(line: &[u8], n: usize) -> u8
     ensures { result ≡ byte_argument n line.now }
 {
-    u8::try_from(argument(line, n)).unwrap_or(255)
+    u8::try_from(argument(line, n)).unwrap_or(u8::MAX)
 }
 
-// Argument n as a budget, and 255 if it is left out.
+// Argument n as a budget, and the one of a line without it.
 fn budget(line: &[u8], n: usize) -> u8
     ensures { result ≡ budget_argument n line.now }
 {
     if arguments(line) < n {
-        return 255;
+        return Command::BUDGET;
     }
     byte_argument(line, n)
 }
@@ -79,8 +81,7 @@ fn fill(part: &mut [u8], seed: u8)
 fn data_length(line: &[u8]) -> usize
     ensures { (result ≡ data_length line.now) × (result ≤ 512) }
 {
-    // `as`, as in `inspect::address`.
-    argument(line, 5).min(512) as usize
+    argument(line, 5).min(Script::DATA)
 }
 
 // `begin K [BUDGET]`, `open K F [BUDGET]`, `open_read K F [BUDGET]`, the first call of `read K F P` and of `look F P`,
@@ -88,7 +89,7 @@ fn data_length(line: &[u8]) -> usize
 pub fn perform_line(v: &mut [u8], s: Session, a: Action, line: &[u8]) -> Performed
     ensures { (m : Model) → IsPerformed (run_of v.old s m) (line_step a line.now) result v.new }
 {
-    let mut buffer = [0u8; 512];
+    let mut buffer = [0u8; Script::DATA];
     let data = &mut buffer[..data_length(line)];
     fill(data, byte_argument(line, 4));
     perform(v, s, command(a, line), data)
@@ -98,7 +99,7 @@ pub fn perform_line(v: &mut [u8], s: Session, a: Action, line: &[u8]) -> Perform
 fn shape_length(line: &[u8]) -> usize
     ensures { (result ≡ shape_length line.now) × (result ≤ 64) }
 {
-    arguments(line).saturating_sub(2).min(64)
+    arguments(line).saturating_sub(2).min(Script::SHAPE)
 }
 
 // The part becomes the list of a format.
@@ -116,7 +117,7 @@ pub fn format(v: &mut [u8], line: &[u8]) -> Result<(), Refusal>
     ensures { formatted result v.new ≡ Format.format v.old (byte_argument 2 line.now)
         (shape_of line.now (shape_length line.now)) }
 {
-    let mut buffer = [0u8; 64];
+    let mut buffer = [0u8; Script::SHAPE];
     let shape = &mut buffer[..shape_length(line)];
     fill_shape(shape, line);
     format::format(v, byte_argument(line, 2), shape)

@@ -9,6 +9,7 @@ use std::io::{Read, Write};
 
 // Reads until the buffer is full or the input ends, and answers how many bytes of the buffer were read. Ruled out: a count past the
 // buffer (`must-fail/one_more_than_read`). By hand: `read_exact` refuses a shorter input, and what `io::copy` counts has no bound.
+// A count, as `read` answers, and no part of the buffer, which the caller has.
 pub fn read_full(rt: &impl Input, buf: &mut [u8]) -> io::Result<usize>
     ensures { IfOk result (λ n. n ≤ length buf.new) }
 {
@@ -27,9 +28,4 @@ pub fn read_full(rt: &impl Input, buf: &mut [u8]) -> io::Result<usize>
 // Writes all these bytes.
 pub fn write(rt: &impl Print, bytes: &[u8]) -> io::Result<()> {
     io::writer(rt).write_all(bytes)
-}
-
-// Writes a number in decimal digits.
-pub fn write_decimal(rt: &impl Print, n: u64) -> io::Result<()> {
-    print!(rt; "{n}")
 }

@@ -1,10 +1,8 @@
 // A candidate made in an array: the layout of the small shape, then the record and the header of its number. Numbers are taken
-// apart by division, as the lists of choices are put together: the last part varies fastest. A part becomes a byte by a cast, which
-// is shown to fit: `try_from` would only add an `unwrap`.
-ghost use Rattle.std.specs.Prelude.{◌≡◌, [], ◌*◌, ◌<◌, length, get_or};
+// apart by division, as the lists of choices are put together: the last part varies fastest.
+ghost use Rattle.std.specs.Prelude.{◌≡◌, [], ◌<◌, length, get_or};
 ghost use Rattle.sector.specs.Layout.{entry_limit};
 ghost use Rattle.sector.specs.Contents.{Record, idle_record, appended};
-ghost use Rattle.sector.specs.Sectors.{zero_sector};
 ghost use Rattle.sector.specs.Encoding.{encode_record, encode_header};
 ghost use Rattle.sector.specs.Decoding.{count_in};
 ghost use Rattle.volume.specs.Views.{no_header, set_record, set_header};
@@ -26,59 +24,63 @@ fn append_choice(buf: &mut [u8; 256], e: usize)
     append_entry(buf, entry_at(e));
 }
 
-// The record with this state and the entries of this list, made of zeros. A list that isn't empty is an earlier one with one
+// The record with this state and the entries of this list. A list that isn't empty is an earlier one with one
 // entry more: after the empty list there is, for each list in order, that list with each entry.
-fn build_record(buf: &mut [u8; 256], state: u8, list: usize)
-    requires { (buf.old ≡ zero_sector) × (list < length entry_lists) }
-    ensures buf_after { buf.new ≡ encode_record (record { state = state; entries = get_or entry_lists list [] }) }
+#[tactic(auto, using(crate::proofs::ChoiceLaws::entries_count, crate::proofs::ChoiceLaws::lists_count, crate::proofs::ChoiceLaws::list_first, crate::proofs::ChoiceLaws::list_longer, crate::proofs::ChoiceLaws::list_room))]
+fn build_record(state: u8, list: usize) -> [u8; 256]
+    requires { list < length entry_lists }
+    ensures { result ≡ encode_record (record { state = state; entries = get_or entry_lists list [] }) }
 {
     if list == 0 {
-        empty_record(buf, state);
-        return;
+        let mut buf = zeros();
+        empty_record(&mut buf, state);
+        return buf;
     }
-    build_record(buf, state, (list - 1) / Choices::ENTRIES);
-    append_choice(buf, (list - 1) % Choices::ENTRIES);
+    let mut buf = build_record(state, (list - 1) / Choices::ENTRIES);
+    append_choice(&mut buf, (list - 1) % Choices::ENTRIES);
+    buf
 }
 
-// Header b, made of zeros.
-#[tactic(auto, using(crate::proofs::ChoiceLaws::maps_count, crate::proofs::ChoiceLaws::headers_count))]
-fn build_header(buf: &mut [u8; 256], b: usize)
-    requires { (buf.old ≡ zero_sector) × (b < length header_choices) }
-    ensures buf_after { buf.new ≡ encode_header small_file (get_or header_choices b no_header) }
+// Header b.
+#[tactic(auto, using(crate::proofs::ChoiceLaws::maps_count, crate::proofs::ChoiceLaws::headers_count, crate::proofs::ChoiceLaws::header_made))]
+fn build_header(b: usize) -> [u8; 256]
+    requires { b < length header_choices }
+    ensures { result ≡ encode_header small_file (get_or header_choices b no_header) }
 {
     let [first, second] = map_at(b % Choices::MAPS);
-    let shape = Small::SHAPE;
-    new_header(buf, &shape, 0);
-    set_holder(buf, (b / Choices::MAPS) as u8);
-    set_map_slot(buf, 0, first);
-    set_map_slot(buf, 1, second);
+    let mut buf = zeros();
+    new_header(&mut buf, Small::FILE);
+    // A cast: the holder is shown to fit, and `try_from` would only add an `unwrap`.
+    set_holder(&mut buf, (b / Choices::MAPS) as u8);
+    set_map_slot(&mut buf, 0, first);
+    set_map_slot(&mut buf, 1, second);
+    buf
 }
 
-// Record a is stored.
-#[tactic(auto, using(crate::proofs::ChoiceLaws::lists_count, crate::proofs::ChoiceLaws::records_count))]
-fn put_record(v: &mut [u8], a: usize)
-    requires { (length v.old ≡ 256 * small_table.sectors) × (a < length record_choices) }
+// Record a is stored. It and `put_header` stay two, as `format`'s.
+#[tactic(auto, using(crate::proofs::ChoiceLaws::lists_count, crate::proofs::ChoiceLaws::records_count, crate::proofs::ChoiceLaws::record_at))]
+fn put_record(v: &mut [u8; Small::LENGTH], a: usize)
+    requires { a < length record_choices }
     ensures { v.new ≡ updated small_table v.old (set_record 1 (get_or record_choices a idle_record)) }
 {
-    let mut buf = zeros();
-    build_record(&mut buf, (a / Choices::LISTS) as u8, a % Choices::LISTS);
-    store(v, Small::RECORD, &buf);
+    // A cast: the state is shown to fit, and `try_from` would only add an `unwrap`.
+    let record = build_record((a / Choices::LISTS) as u8, a % Choices::LISTS);
+    store(v, Small::RECORD, &record);
 }
 
 // Header b is stored.
-fn put_header(v: &mut [u8], b: usize)
-    requires { (length v.old ≡ 256 * small_table.sectors) × (b < length header_choices) }
+#[tactic(auto, unfolding(volume::specs::Places::sector_after))]
+fn put_header(v: &mut [u8; Small::LENGTH], b: usize)
+    requires { b < length header_choices }
     ensures { v.new ≡ updated small_table v.old (set_header 1 (get_or header_choices b no_header)) }
 {
-    let mut buf = zeros();
-    build_header(&mut buf, b);
-    store(v, Small::HEADER, &buf);
+    store(v, Small::HEADER, &build_header(b));
 }
 
 // The array becomes candidate i.
-#[tactic(auto, using(crate::proofs::ChoiceLaws::records_count, crate::proofs::ChoiceLaws::headers_count, crate::proofs::ChoiceLaws::candidates_count))]
-pub fn make_candidate(v: &mut [u8], i: usize)
-    requires { (length v.old ≡ 256 * small_table.sectors) × (i < length candidates) }
+#[tactic(auto, using(crate::proofs::ChoiceLaws::records_count, crate::proofs::ChoiceLaws::headers_count, crate::proofs::ChoiceLaws::candidates_count, crate::proofs::MadeLaws::laid_out, crate::proofs::MadeLaws::candidate_made))]
+pub fn make_candidate(v: &mut [u8; Small::LENGTH], i: usize)
+    requires { i < length candidates }
     ensures { v.new ≡ get_or candidates i [] }
 {
     let shape = Small::SHAPE;

@@ -5,8 +5,8 @@ ghost use Rattle.enumeration.specs.Choices.{entry_choices, map_choices};
 
 use sector::Entry;
 
-// How many there are.
-#[derive(Clone, Copy)]
+// How many there are. The numbers stay associated constants, as `sector`'s.
+#[derive(Clone, Copy, Debug, PartialEq, Eq)]
 pub struct Choices {}
 
 impl Choices {
@@ -23,6 +23,7 @@ impl Choices {
 }
 
 // The page and the slot of each entry.
+// Rows of two bytes, since each entry's file is 1: six `Entry` written out would be no plainer.
 const ENTRY_ROWS: [[u8; 2]; 6] = [[0, 0], [0, 1], [0, 2], [1, 0], [1, 1], [1, 2]];
 
 // The slots of both pages in each map.

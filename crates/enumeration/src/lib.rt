@@ -5,14 +5,14 @@
 mod candidate;
 mod choices;
 
-ghost use Rattle.std.specs.Prelude.{◌≡◌, ◌*◌, length};
-ghost use Rattle.enumeration.specs.Choices.{small_table};
+ghost use Rattle.std.specs.Prelude.{◌≡◌, length};
 ghost use Rattle.enumeration.specs.Small.{small_volumes};
 ghost use Rattle.enumeration.specs.Advances.{sound_from};
 ghost use Rattle.enumeration.specs.Advances;
 
 use crate::candidate::make_candidate;
 use crate::choices::Choices;
+use sector::File;
 use soundness::is_sound;
 use std::error::Error;
 use std::fmt;
@@ -29,8 +29,8 @@ impl fmt::Display for BadLength {
 
 impl Error for BadLength {}
 
-// What all small volumes have in common.
-#[derive(Clone, Copy)]
+// What all small volumes have in common. The numbers stay associated constants, as `sector`'s.
+#[derive(Clone, Copy, Debug, PartialEq, Eq)]
 pub struct Small {}
 
 impl Small {
@@ -40,6 +40,8 @@ impl Small {
     pub const CLIENTS: u8 = 1;
 
     pub const SHAPE: [u8; 2] = [2, 3];
+
+    pub const FILE: File = File { pages: 2, slots: 3 };
     // The sectors of the record and of the header.
     pub const RECORD: usize = 1;
 
@@ -47,6 +49,7 @@ impl Small {
 }
 
 // How many small volumes there are. Ruled out: one too many (`must-fail/counts_271`); the number of candidates.
+#[tactic(auto, using(crate::proofs::CountLaws::counted))]
 pub fn count() -> usize
     ensures { result ≡ length small_volumes }
 {
@@ -54,9 +57,8 @@ pub fn count() -> usize
 }
 
 // The number of the first sound candidate from number `from` on. Candidates are made in the array.
-#[tactic(auto, using(crate::proofs::ChoiceLaws::candidates_count))]
-fn search(trial: &mut [u8], from: usize) -> Option<usize>
-    requires { length trial.old ≡ 256 * small_table.sectors }
+#[tactic(auto, using(crate::proofs::ChoiceLaws::candidates_count, crate::proofs::AdvanceLaws::number_later, crate::proofs::AdvanceLaws::found_here, crate::proofs::AdvanceLaws::found_none))]
+fn search(trial: &mut [u8; Small::LENGTH], from: usize) -> Option<usize>
     ensures { result ≡ sound_from from }
 {
     for i in from..Choices::CANDIDATES {
@@ -81,12 +83,11 @@ fn next_sound(from: usize) -> Option<usize>
 // begins at 0 and goes on at the number answered (`Walks`). Ruled out: a volume that isn't sound
 // (`must-fail/soundness_not_tested`), one left out (`candidate_skipped`) or put twice (`volume_twice`, `last_volume_twice`); a
 // byte of the array changed where no volume is put.
+#[tactic(auto, using(crate::proofs::ChoiceLaws::candidates_count, crate::proofs::AdvanceLaws::found_some, crate::proofs::AdvanceLaws::advance_refuses, crate::proofs::AdvanceLaws::advance_ends))]
 pub fn advance(v: &mut [u8], from: usize) -> Result<Option<usize>, BadLength>
     ensures { record { answer = result; volume = v.new } ≡ Advances.advance v.old from }
 {
-    if v.len() != Small::LENGTH {
-        return Err(BadLength);
-    }
+    let v = v.as_mut_array().ok_or(BadLength)?;
     let Some(i) = next_sound(from) else {
         return Ok(None);
     };

@@ -3,11 +3,11 @@
 -- that of the new volume, so that the zeros left at the end are its last sectors.
 use mathlib.Core.Path.{◌≡◌, refl, ◌∙◌}
 use mathlib.Core.Bool.{true}
-use mathlib.Core.List.{[], ◌++◌, append_assoc}
-use Prim.Native.Nat.{ℕ, suc, ◌+◌, ◌*◌, ◌-◌, ◌/◌, ◌≤◌, ◌<◌}
+use mathlib.Core.List.{List, [], ◌∷◌, ◌++◌, append_assoc}
+use Prim.Native.Nat.{ℕ, suc, ◌+◌, ◌*◌, ◌-◌, ◌≤◌}
 use native.Mathlib.Omega.{arith}
 use borrow.Author.Tests.{leb-true}
-use lib.ListN.{length, drop, replicate, length-append, length-replicate}
+use lib.ListN.{length, replicate, length-append, length-replicate}
 use Rattle.lists.specs.Lists.{every}
 use Rattle.sector.specs.Layout.{items_room, page_limit, entry_limit}
 use Rattle.sector.specs.Contents.{Bytes, Table, idle_record, new_header}
@@ -18,13 +18,11 @@ use Rattle.lists.proofs.ListLaws.{all_at}
 use Rattle.sector.proofs.CodecLaws.{table_length, record_length}
 use Rattle.volume.specs.Places.{sector_after, end_sector}
 use Rattle.volume.specs.Lawful.{file_fits}
-use Rattle.sector.specs.Shapes.{files_of, pair_at}
 use Rattle.volume.specs.Format.{repeated, new_files, new_volume}
 use Rattle.volume.proofs.PlaceLaws.{after_least}
 use Rattle.sector.specs.Puts.{Puts}
 use Rattle.sector.proofs.PutsLaws.{puts_zeros, puts_more, puts_store}
-use Rattle.sector.proofs.ShapeLaws.{files_from_lem}
-use Rattle.format.proofs.RequestLaws.{first_fits}
+use Rattle.format.proofs.RequestLaws.{first_fits, after_turn}
 use Rattle.volume.proofs.FormatLaws.{repeated_length, new_header_length, new_files_length}
 
 -- ------------------------------------------------------------------ the records
@@ -41,32 +39,32 @@ records_turn n k b lo hi w rest =
     rw m (puts_more (256 * k) (256 * (k + 1)) _ _ b _ w (omega (arith, idle_length)) (puts_store k _ b idle_length) rest)
 
 -- ------------------------------------------------------------------ the files
--- File i's header is stored in sector h; its slots stay zeros.
-pub files_turn : (l : Bytes) (i h next : ℕ) (b : Bytes) → next ≡ h + 1 + (pair_at l i).slots → i < length l / 2 → every file_fits (drop i (files_of l)) ≡ true
-    → (w : Bytes) → Puts (256 * next) (new_files (drop (i + 1) (files_of l))) (store_at b h (encode_header (pair_at l i) (new_header (pair_at l i)))) w
-    → Puts (256 * h) (new_files (drop i (files_of l))) b w
-unfolding new_files
-files_turn l i h next b at lt fits w rest =
-    let x : File = pair_at l i in
-    let full = new_header_length x (first_fits l i lt fits) in
-    let e : 256 * next ≡ 256 * h + 256 + length (replicate {A = ℕ} (256 * x.slots) 0) = rw (length-replicate {A = ℕ} (256 * x.slots) 0) (omega arith) in
-    rw (files_from_lem l i lt) (puts_more (256 * h) (256 * h + 256) _ _ b _ w (omega (arith, full)) (puts_store h _ b full)
-    (puts_more (256 * h + 256) (256 * next) (replicate (256 * x.slots) 0) _ _ _ w e (puts_zeros (256 * h + 256) (256 * x.slots) _) rest))
+-- Of the files that are left, x and then xs: the header of x is stored in sector h; its slots stay zeros.
+module _ (x : File) (xs left : List File) (next : left ≡ x ∷ xs) where
+  pub files_turn : (h : ℕ) (b : Bytes) → every file_fits left ≡ true
+      → (w : Bytes) → Puts (256 * (h + (1 + x.slots))) (new_files xs) (store_at b h (encode_header x (new_header x))) w
+      → Puts (256 * h) (new_files left) b w
+  unfolding new_files
+  files_turn h b fits w rest =
+      let full = new_header_length x (first_fits x xs left next fits) in
+      let at : ℕ = 256 * (h + (1 + x.slots)) in
+      let e : at ≡ 256 * h + 256 + length (replicate {A = ℕ} (256 * x.slots) 0) = rw (length-replicate {A = ℕ} (256 * x.slots) 0) (omega arith) in
+      rw next (puts_more (256 * h) (256 * h + 256) _ _ b _ w (omega (arith, full)) (puts_store h _ b full)
+      (puts_more (256 * h + 256) at (replicate (256 * x.slots) 0) _ _ _ w e (puts_zeros (256 * h + 256) (256 * x.slots) _) rest))
 
--- There is room for its header, and it is in range.
-pub file_room : (l : Bytes) (i h n : ℕ) → i < length l / 2 → 256 * sector_after h (drop i (files_of l)) ≤ n → 256 * h + 256 ≤ n
-unfolding sector_after
-file_room l i h n lt room =
-    let r : 256 * sector_after (h + 1 + (pair_at l i).slots) (drop (i + 1) (files_of l)) ≤ n = rw (files_from_lem l i lt) at room in
-    omega (arith, after_least (h + 1 + (pair_at l i).slots) (drop (i + 1) (files_of l)))
+  -- There is room for x, and its header is in range.
+  pub file_room : (h n : ℕ) → 256 * sector_after h left ≤ n → 256 * (h + (1 + x.slots)) ≤ n
+  file_room h n room =
+      let r : 256 * sector_after (h + (1 + x.slots)) xs ≤ n = rw (after_turn x xs left next h) room in
+      omega (arith, after_least (h + (1 + x.slots)) xs)
 
-pub file_pages : (l : Bytes) (i : ℕ) → i < length l / 2 → every file_fits (drop i (files_of l)) ≡ true → (pair_at l i).pages ≤ items_room
-file_pages l i lt fits =
-    let h : (pair_at l i).pages ≤ page_limit = leb-true _ _ (all_at _ 1 (first_fits l i lt fits)) in
-    omega arith
+  pub file_pages : every file_fits left ≡ true → x.pages ≤ items_room
+  file_pages fits =
+      let h : x.pages ≤ page_limit = leb-true _ _ (all_at _ 1 (first_fits x xs left next fits)) in
+      omega arith
 
-pub file_slots : (l : Bytes) (i : ℕ) → i < length l / 2 → every file_fits (drop i (files_of l)) ≡ true → (pair_at l i).pages ≤ (pair_at l i).slots
-file_slots l i lt fits = leb-true _ _ (all_at _ 2 (first_fits l i lt fits))
+  pub file_slots : every file_fits left ≡ true → x.pages ≤ x.slots
+  file_slots fits = leb-true _ _ (all_at _ 2 (first_fits x xs left next fits))
 
 -- ------------------------------------------------------------------ all of it
 pub laid_out : (t : Table) (a c e : Bytes) → a ≡ replicate (256 * t.sectors) 0

@@ -1,29 +1,28 @@
-// The array of a new volume: zeros, into which the control sectors are stored rising by sector, each built in the
-// working sector.
-ghost use Rattle.std.specs.Prelude.{◌≡◌, true, ◌+◌, ◌*◌, ◌/◌, ◌≤◌, ◌<◌, length};
+// The array of a new volume: zeros, into which the control sectors are stored, rising by sector.
+ghost use Rattle.std.specs.Prelude.{◌≡◌, true, ◌+◌, ◌*◌, ◌≤◌, length};
 ghost use Rattle.lists.specs.Lists.{every};
-ghost use Rattle.sector.specs.Layout.{items_room, sector_limit, file_limit};
+ghost use Rattle.sector.specs.Layout.{items_room, sector_limit};
 ghost use Rattle.sector.specs.Contents.{idle_record, new_header};
-ghost use Rattle.sector.specs.declared.layout.File.{File};
 ghost use Rattle.sector.specs.Sectors.{store_at};
 ghost use Rattle.sector.specs.Encoding.{encode_table, encode_record, encode_header};
 ghost use Rattle.volume.specs.Places.{sector_after};
 ghost use Rattle.volume.specs.Lawful.{file_fits};
-ghost use Rattle.sector.specs.Shapes.{files_of, pair_at};
+ghost use Rattle.sector.specs.Walks.{files_left};
 ghost use Rattle.volume.specs.Format.{table_for, repeated, new_files, new_volume};
 ghost use Rattle.format.specs.Requests.{Fits};
 ghost use Rattle.sector.specs.Puts.{Puts};
 
-use sector::{Sector, State, empty_record, new_header, new_table, store, zeros};
+use sector::{File, Files, Sector, State, empty_record, new_header, new_table, store, zeros};
 
 // The table is stored in sector 0.
-fn put_table(v: &mut [u8], clients: u8, shape: &[u8])
-    requires { (256 ≤ length v.old) × (length v.old ≤ 256 * sector_limit) × (length shape.now ≤ 2 * file_limit) }
-    ensures { v.new ≡ store_at v.old 0 (encode_table (table_for (length v.old) clients shape.now)) }
+// What builds and stores stays one function for each kind of sector: over a closure, the contract would be all of them again.
+fn put_table(v: &mut [u8], clients: u8, files: Files<'_>)
+    requires { (256 ≤ length v.old) × (length v.old ≤ 256 * sector_limit) }
+    ensures { v.new ≡ store_at v.old 0 (encode_table (table_for (length v.old) clients files.entry.pairs.now)) }
 {
-    let mut buf = zeros();
-    new_table(&mut buf, v.len() / Sector::SIZE, clients, shape);
-    store(v, 0, &buf);
+    let mut table = zeros();
+    new_table(&mut table, v.len() / Sector::SIZE, clients, files);
+    store(v, 0, &table);
 }
 
 // The idle record of client k is stored.
@@ -42,44 +41,44 @@ fn put_records(v: &mut [u8], clients: usize)
     ensures puts { Puts 256 (repeated clients (encode_record idle_record)) v.old v.new }
     ensures v_len_unchanged { length v.new ≡ length v.old }
 {
-    for k in 1..clients + 1 {
+    for k in 1..=clients {
         put_record(v, k);
     }
 }
 
-// The header of the file with index i is stored in sector h.
-fn put_header(v: &mut [u8], h: usize, shape: &[u8], i: usize)
-    requires { (256 * h + 256 ≤ length v.old) × (h ≤ 65536) × (length shape.now ≤ 2 * file_limit)
-        × (i < length shape.now / 2) × ((pair_at shape.now i).pages ≤ items_room)
-        × ((pair_at shape.now i).pages ≤ (pair_at shape.now i).slots) }
-    ensures { v.new ≡ store_at v.old h (encode_header (pair_at shape.now i) (new_header (pair_at shape.now i))) }
+// The header of a new file is stored in sector h.
+fn put_header(v: &mut [u8], h: usize, x: File)
+    requires { (256 * h + 256 ≤ length v.old) × (h ≤ 65536) × (x.pages ≤ items_room) × (x.pages ≤ x.slots) }
+    ensures { v.new ≡ store_at v.old h (encode_header x (new_header x)) }
 {
     let mut buf = zeros();
-    new_header(&mut buf, shape, i);
+    new_header(&mut buf, x);
     store(v, h, &buf);
 }
 
 // The headers of all files, the first one's in sector `first`. Their slots are zeros already.
-fn put_files(v: &mut [u8], first: usize, shape: &[u8])
-    requires { (256 * sector_after first (files_of shape.now) ≤ length v.old) × (length v.old ≤ 256 * sector_limit)
-        × (length shape.now ≤ 2 * file_limit) × (every file_fits (files_of shape.now) ≡ true) }
-    ensures { Puts (256 * first) (new_files (files_of shape.now)) v.old v.new }
+#[tactic(auto, using(crate::proofs::LayoutLaws::file_pages, crate::proofs::LayoutLaws::file_slots))]
+fn put_files(v: &mut [u8], first: usize, files: Files<'_>)
+    requires { (256 * sector_after first (files_left files) ≤ length v.old) × (length v.old ≤ 256 * sector_limit)
+        × (every file_fits (files_left files) ≡ true) }
+    ensures { Puts (256 * first) (new_files (files_left files.entry)) v.old v.new }
 {
     let mut h = first;
-    for i in 0..shape.len() / 2 {
-        put_header(v, h, shape, i);
-        h += 1 + usize::from(shape[2 * i + 1]);
+    for x in files {
+        put_header(v, h, x);
+        h += x.sectors();
     }
 }
 
 // The array becomes the new volume.
-pub fn lay_out(v: &mut [u8], clients: u8, shape: &[u8])
-    requires { Fits (length v.old) clients shape.now }
-    ensures { v.new ≡ new_volume (table_for (length v.old) clients shape.now) }
+#[tactic(auto, using(crate::proofs::FormatLaws::fits_room))]
+pub fn lay_out(v: &mut [u8], clients: u8, files: Files<'_>)
+    requires { Fits (length v.old) clients files.pairs.now }
+    ensures { v.new ≡ new_volume (table_for (length v.old) clients files.entry.pairs.now) }
 {
     v.fill(0);
-    put_table(v, clients, shape);
+    put_table(v, clients, files);
     let clients = usize::from(clients);
     put_records(v, clients);
-    put_files(v, clients + 1, shape);
+    put_files(v, clients + 1, files);
 }

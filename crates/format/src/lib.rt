@@ -11,7 +11,7 @@ ghost use Rattle.format.specs.Outcomes.{formatted};
 use crate::layout::lay_out;
 use crate::request::{end_sector, length_fits, shape_fits};
 use interface::Refusal;
-use sector::Sector;
+use sector::{Files, Sector};
 
 // Lays out a volume for `clients` clients and the files of `shape`, a list of pairs: the pages of a file, then its
 // slots. The array may have any length and content before. Ruled out: a byte of the array left as it was on success, be
@@ -27,9 +27,10 @@ pub fn format(v: &mut [u8], clients: u8, shape: &[u8]) -> Result<(), Refusal>
     if !shape_fits(clients, shape) {
         return Err(Refusal::BadShape);
     }
-    if v.len() / Sector::SIZE < end_sector(clients, shape) {
+    let files = Files::of(shape);
+    if v.len() / Sector::SIZE < end_sector(clients, files) {
         return Err(Refusal::TooFewSectors);
     }
-    lay_out(v, clients, shape);
+    lay_out(v, clients, files);
     Ok(())
 }

@@ -1,14 +1,13 @@
 // Whether what is asked for can be laid out: the array's length, the number of clients, and the list of files.
 ghost use Rattle.std.specs.Prelude.{◌≡◌, ◌*◌, ◌≤◌, length};
 ghost use Rattle.lists.specs.Lists.{every};
-ghost use Rattle.sector.specs.Layout.{file_limit};
 ghost use Rattle.sector.specs.Contents.{first_header};
 ghost use Rattle.volume.specs.Places.{sector_after};
 ghost use Rattle.volume.specs.Lawful.{file_fits};
 ghost use Rattle.volume.specs.Format.{length_fits, shape_fits};
-ghost use Rattle.sector.specs.Shapes.{files_of};
+ghost use Rattle.sector.specs.Walks.{files_left};
 
-use sector::{Limits, Sector};
+use sector::{Files, Limits, Sector};
 use volume::file_fits;
 
 // Whether n bytes are a whole number of sectors, and not too many.
@@ -39,26 +38,24 @@ pub fn shape_fits(clients: u8, shape: &[u8]) -> bool
     if 2 * Limits::FILES < shape.len() {
         return false;
     }
-    files_fit(shape)
+    files_fit(Files::of(shape))
 }
 
 // Whether every file of the list is in range.
-fn files_fit(shape: &[u8]) -> bool
-    ensures { result ≡ every file_fits (files_of shape.now) }
+fn files_fit(mut files: Files<'_>) -> bool
+    ensures { result ≡ every file_fits (files_left files.entry) }
 {
-    let (pairs, _) = shape.as_chunks::<2>();
-    pairs.iter().all(|pair| file_fits(pair[0], pair[1]))
+    files.all(|x| file_fits(x))
 }
 
 // The sector after the last file.
-pub fn end_sector(clients: u8, shape: &[u8]) -> usize
-    requires { length shape.now ≤ 2 * file_limit }
-    ensures { result ≡ sector_after (first_header clients) (files_of shape.now) }
+#[tactic(auto, using(crate::proofs::RequestLaws::after_turn, crate::proofs::RequestLaws::after_end, sector::proofs::ShapeLaws::files_count))]
+pub fn end_sector(clients: u8, files: Files<'_>) -> usize
+    ensures { result ≡ sector_after (first_header clients) (files_left files.entry) }
 {
-    let (pairs, _) = shape.as_chunks::<2>();
     let mut h = usize::from(clients) + 1;
-    for pair in pairs {
-        h += 1 + usize::from(pair[1]);
+    for x in files {
+        h += x.sectors();
     }
     h
 }

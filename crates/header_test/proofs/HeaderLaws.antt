@@ -95,7 +95,18 @@ holder_is t v k f s m hs =
     ap (λ (has : ℕ → Bool). eqb k 0 || all (leb k t.clients ∷ not (is_idle r) ∷ every (λ e. not (for_file f e && has e.slot)) r.entries ∷ [])) has_is
 
 -- ------------------------------------------------------------------ the whole header, as `header_is_sound` tests it
--- d is the sector s of file f's header.
+-- d is the sector of file f's header.
+module _ (v : Volume) (tb : Bytes) (f : ℕ) (lo : 1 ≤ f) (hi : f ≤ file_count_in tb) (d : Bytes)
+    (at : d ≡ bytes_at (decode_table tb) v (header_place f)) where
+  sound_is : header_sound (decode_table tb) v f
+      ≡ (is_header_encoding (file_in tb (f - 1)) d && header_fits (record_in (decode_table tb) (bytes_at (decode_table tb) v)) (decode_table tb) f (decode_header (file_in tb (f - 1)) d))
+  unfolding header_sound
+  sound_is = rw (← at, file_is tb f lo hi)
+
+  pub no_header_lem : is_header_encoding (file_in tb (f - 1)) d ≡ false → header_sound (decode_table tb) v f ≡ false
+  no_header_lem e = sound_is ∙ rw e
+
+-- It is found by the table, where all but the headers has been tested.
 module _ {v : Volume} {tb : Bytes} (tested : Tested v tb) (f : ℕ) (lo : 1 ≤ f) (hi : f ≤ file_count_in tb) {i s : ℕ} (same : i ≡ f)
     (place : s ≡ header_sector_in tb (i - 1)) {d : Bytes} (read : d ≡ sector v s) where
   abbrev t : Table
@@ -113,12 +124,11 @@ module _ {v : Volume} {tb : Bytes} (tested : Tested v tb) (f : ℕ) (lo : 1 ≤ 
   at : d ≡ bytes_at t v (header_place f)
   at = read ∙ ap (sector v) (place ∙ rw same (tested.header_is f lo hi))
 
-  sound_is : header_sound t v f ≡ (is_header_encoding x d && header_fits recs t f h)
-  unfolding header_sound
-  sound_is = rw (← at, file_is tb f lo hi, same)
+  sound_here : header_sound t v f ≡ (is_header_encoding x d && header_fits recs t f h)
+  sound_here = rw same (sound_is v tb f lo hi d at)
 
-  pub no_header_lem : is_header_encoding x d ≡ false → header_sound t v f ≡ false
-  no_header_lem e = sound_is ∙ rw e
+  pub no_header : is_header_encoding x d ≡ false → header_sound t v f ≡ false
+  no_header e = no_header_lem v tb f lo hi d at (rw same at e)
 
   module _ (ok : is_header_encoding x d ≡ true) where
     parts : header_sound t v f ≡ (map_fits x.slots h.map && (eqb h.holder 0 || holder_fits recs t f h))
@@ -127,7 +137,7 @@ module _ {v : Volume} {tb : Bytes} (tested : Tested v tb) (f : ℕ) (lo : 1 ≤ 
         let len : length d ≡ 256 = rw read (sector_length v s (rw (place, same) (tested.headers f lo hi))) in
         let few : x.pages ≤ 120 = rw same (tested.pages f lo hi) in
         let count : eqb (length h.map) x.pages ≡ true = eq-eqb _ _ (decoded_map x d len (omega arith)) in
-        sound_is ∙ rw (ok, file_is tb f lo hi, ← same, count) (simp (and_assoc, and-true))
+        sound_here ∙ rw (ok, file_is tb f lo hi, ← same, count) (simp (and_assoc, and-true))
 
     pub map_no : map_fits x.slots h.map ≡ false → header_sound t v f ≡ false
     map_no e = parts ∙ rw e

@@ -2,18 +2,20 @@
 #![tactic(auto)]
 
 ghost use Rattle.std.specs.Prelude.{◌≡◌, ◌≤◌};
-ghost use Rattle.sector.specs.Layout.{page_limit, entry_limit};
-ghost use Rattle.sector.specs.Decoding.{file_count_in, count_in, decode_table, decode_record, decode_header};
+ghost use Rattle.sector.specs.Layout.{page_limit};
+ghost use Rattle.sector.specs.Decoding.{file_count_in, decode_table, decode_header};
+ghost use Rattle.sector.specs.Walks.{entries_left};
 ghost use Rattle.header_test.specs.Header.{Scanned, slot_apart, slots_apart, holder_test, header_sound};
 ghost use Rattle.header_test.specs.Tested.{Tested};
 
 use byteset::BitSet;
 use sector::{
-    Entry, File, entry, file, file_header, header_holder, is_header, map_slot, part, record_count,
+    Entries, Entry, File, State, file, file_header, header_holder, is_header, map, part,
     record_state, table_clients,
 };
 
-// A volume and its sector 0, with all tested but the headers.
+// A volume and its sector 0, with all tested but the headers: it knows more than `volume::TabledVolume`, what the tests of the
+// records found. Clone and Copy alone: nobody compares two or prints one.
 #[derive(Clone, Copy)]
 pub struct TestedVolume<'a> {
     pub v: &'a [u8],
@@ -28,11 +30,12 @@ impl TestedVolume<'_> {
         ensures { result ≡ header_sound (decode_table self.now.table.now) self.now.v.now f }
     {
         let i = usize::from(f) - 1;
+        let x = file(self.table, i);
         let d = part(self.v, file_header(self.table, i));
-        if !is_header(d, self.table, i) {
+        if !is_header(d, x) {
             return false;
         }
-        let Some(seen) = slots_of_map(d, file(self.table, i)) else {
+        let Some(seen) = slots_of_map(d, x) else {
             return false;
         };
         self.holder_fits(header_holder(d), f, &seen)
@@ -40,6 +43,7 @@ impl TestedVolume<'_> {
 
     // Whether k may hold file f, whose map has the slots in `seen`: nobody does, or client k with a record that is not idle and
     // gives none of these slots.
+    #[tactic(auto, using(crate::proofs::HeaderLaws::holder_none, crate::proofs::HeaderLaws::holder_high))]
     fn holder_fits(&self, k: u8, f: u8, seen: &BitSet<4>) -> bool
         ensures { result ≡ holder_test (decode_table self.now.table.now) self.now.v.now k f seen.now.words }
     {
@@ -50,7 +54,7 @@ impl TestedVolume<'_> {
             return false;
         }
         let d = part(self.v, usize::from(k));
-        (record_state(d) != 0) & slots_apart(d, f, seen)
+        (record_state(d) != State::IDLE) & slots_apart(Entries::of(d), f, seen)
     }
 }
 
@@ -60,29 +64,23 @@ fn slots_of_map(d: &[u8; 256], x: File) -> Option<BitSet<4>>
     ensures { Scanned x.slots (decode_header x d.now).map result }
 {
     let mut seen = BitSet::<4>::new();
-    for p in 0..usize::from(x.pages) {
-        let r = map_slot(d, p);
-        if x.slots <= r {
+    for r in map(d, x.pages) {
+        if x.slots <= *r {
             return None;
         }
-        if !seen.insert(usize::from(r)) {
+        if !seen.insert(usize::from(*r)) {
             return None;
         }
     }
     Some(seen)
 }
 
-// Whether no entry of record d for file f gives a slot in `seen`.
-fn slots_apart(d: &[u8; 256], f: u8, seen: &BitSet<4>) -> bool
-    requires { count_in d.now ≤ entry_limit }
-    ensures { result ≡ slots_apart f seen.now.words (decode_record d.now).entries }
+// Whether none of the entries for file f gives a slot in `seen`.
+// The file's number and its slots stay two: a struct for three private functions would be no plainer.
+fn slots_apart(mut entries: Entries<'_>, f: u8, seen: &BitSet<4>) -> bool
+    ensures { result ≡ slots_apart f seen.now.words (entries_left entries.entry) }
 {
-    for i in 0..usize::from(record_count(d)) {
-        if !slot_apart(entry(d, i), f, seen) {
-            return false;
-        }
-    }
-    true
+    entries.all(|e| slot_apart(e, f, seen))
 }
 
 // Whether the entry is for another file than f, or gives a slot that is not in `seen`.

@@ -1,16 +1,16 @@
 -- The length of a line of the listing, by its parts. Then the loop that writes a line for each of the numbers 1 to n: where it
 -- starts, a turn and its end, by the first of the lines that are left.
-use mathlib.Core.Path.{◌≡◌, refl, ◌∙◌}
+use mathlib.Core.Path.{◌≡◌}
 use mathlib.Core.List.{[], ◌∷◌, ◌++◌}
 use Prim.Native.Nat.{ℕ, suc, ◌+◌, ◌-◌, ◌≤◌}
 use native.Mathlib.Numerals.{add-one}
 use native.Mathlib.Omega.{arith}
 use lib.ListN.{length, length-append}
-use lib.Seq.{length-sets}
 use Rattle.lists.specs.Lists.{from}
 use Rattle.sector.specs.Contents.{Bytes}
 use Rattle.volume.specs.Listing.{decimal, state_word, client_text, sectors_text, pages_text, client_line, file_line, lines}
-use Rattle.text.specs.Writes.{Wrote}
+use Rattle.text.specs.declared.Writer.{Writer}
+use Rattle.text.specs.Writes.{HasRoom, Wrote}
 use Rattle.text.proofs.WritesLaws.{wrote_more}
 
 -- ------------------------------------------------------------------ one line
@@ -38,34 +38,31 @@ file_length f holder pages slots =
     )
 
 -- ------------------------------------------------------------------ the lines of the numbers 1 to n
--- They are being written to b, from `start` on, and k is next: b has become c, those from k on have room at `at`, and whoever
--- writes them has written all.
-pub record Writing (line : ℕ → Bytes) (n : ℕ) (b : Bytes) (start k : ℕ) (c : Bytes) (at : ℕ) : Type 0 where
-  pub size : length c ≡ length b
-  pub room : at + length (lines line (from k (n + 1 - k))) ≤ length b
-  pub rest : (w : Bytes) (m : ℕ) → Wrote c at (lines line (from k (n + 1 - k))) w m → Wrote b start (lines line (from 1 n)) w m
+-- They are being written from w on, and k is next: w has become x, those from k on have room, and whoever writes them has written
+-- all.
+pub record Writing (line : ℕ → Bytes) (n : ℕ) (w : Writer) (k : ℕ) (x : Writer) : Type 0 where
+  pub room : HasRoom x (length (lines line (from k (n + 1 - k))))
+  pub rest : {y : Writer} → Wrote (lines line (from k (n + 1 - k))) x y → Wrote (lines line (from 1 n)) w y
 
 lines_from : (line : ℕ → Bytes) (n k : ℕ) → k ≤ n → lines line (from k (n + 1 - k)) ≡ line k ++ lines line (from (k + 1) (n + 1 - (k + 1)))
 lines_from line n k h =
     let m : n + 1 - k ≡ suc (n + 1 - (k + 1)) = omega arith in
     rw (m, add-one k)
 
-pub writing_starts : (line : ℕ → Bytes) (n : ℕ) (b : Bytes) (start : ℕ) → start + length (lines line (from 1 n)) ≤ length b
-    → Writing line n b start 1 b start
-writing_starts line n b start room =
+pub writing_starts : (line : ℕ → Bytes) (n : ℕ) (w : Writer) → HasRoom w (length (lines line (from 1 n))) → Writing line n w 1 w
+writing_starts line n w room =
     let e : n + 1 - 1 ≡ n = omega arith in
-    record { size = refl; room = rw e room; rest = λ w m x. rw e at x }
+    record { room = rw e room; rest = λ a. rw e at a }
 
-module _ {line : ℕ → Bytes} {n : ℕ} {b c : Bytes} {start k at : ℕ} (now : Writing line n b start k c at) where
-  next_room : k ≤ n → at + (length (line k) + length (lines line (from (k + 1) (n + 1 - (k + 1))))) ≤ length b
+module _ {line : ℕ → Bytes} {n k : ℕ} {w x : Writer} (now : Writing line n w k x) where
+  next_room : k ≤ n → x.at + (length (line k) + length (lines line (from (k + 1) (n + 1 - (k + 1))))) ≤ length x.out.now
   next_room h = rw (lines_from line n k h, length-append (line k) (lines line (from (k + 1) (n + 1 - (k + 1))))) at now.room
 
-  pub writing_room : k ≤ n → at + length (line k) ≤ length c
-  writing_room h = omega (arith, next_room h, now.size)
+  pub writing_room : k ≤ n → HasRoom x (length (line k))
+  writing_room h = omega (arith, next_room h)
 
-  pub writing_turn : {d : Bytes} {next : ℕ} → k ≤ n → Wrote c at (line k) d next → Writing line n b start (k + 1) d next
+  pub writing_turn : {y : Writer} → k ≤ n → Wrote (line k) x y → Writing line n w (k + 1) y
   writing_turn h one = record {
-    size = rw one.bytes (length-sets c at (line k)) ∙ now.size;
-    room = omega (arith, one.next, next_room h);
-    rest = λ w m x. now.rest w m (rw (lines_from line n k h) (wrote_more one x));
+    room = omega (arith, one.next, one.size, next_room h);
+    rest = λ a. now.rest (rw (lines_from line n k h) (wrote_more one a));
   }

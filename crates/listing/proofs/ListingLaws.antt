@@ -17,6 +17,7 @@ use Rattle.volume.specs.Listing.{state_word, lines, listing, client_line_of, cli
 use Rattle.volume.proofs.LawfulLaws.{Lawful, record_facts, lawful_facts, holder_four}
 use Rattle.volume.proofs.SoundLaws.{sound_lawful}
 use Rattle.std.specs.Prelude.{Ok}
+use Rattle.text.specs.declared.Writer.{Writer}
 use Rattle.text.specs.Writes.{Wrote}
 use Rattle.listing.specs.Listed.{Listed, listed}
 use Rattle.text.proofs.WritesLaws.{one_digit, below_100, any_number, wrote_more, wrote_front}
@@ -73,15 +74,15 @@ module _ (v : Volume) (ok : sound v ≡ true) where
 
 -- ------------------------------------------------------------------ what is written
 -- The lines of the clients and those of the files behind them are the listing.
-pub wrote_listing : (v : Volume) (b c d : Bytes) (n r : ℕ)
-    → Wrote b 0 (client_lines (view v)) c n → Wrote c n (file_lines (view v)) d r → Wrote b 0 (listing (view v)) d r
+pub wrote_listing : (v : Volume) {w x y : Writer} → Wrote (client_lines (view v)) w x → Wrote (file_lines (view v)) x y
+    → Wrote (listing (view v)) w y
 unfolding listing
-wrote_listing v b c d n r x y = wrote_more x y
+wrote_listing v a b = wrote_more a b
 
--- So it is what the definition says.
-pub listed_text : (v : Volume) (b d : Bytes) (r : ℕ) → 664 ≤ length b → sound v ≡ true → Wrote b 0 (listing (view v)) d r
-    → ◌≡◌ {A = Listed} (record { outcome = Ok r; out = d }) (listed v b)
+-- So it is what the definition says, where o is what the buffer ends as.
+pub listed_text : (v : Volume) {o : Bytes} {w x : Writer} → o ≡ x.out.now → w.at ≡ 0 → 664 ≤ length w.out.now → sound v ≡ true
+    → Wrote (listing (view v)) w x → ◌≡◌ {A = Listed} (record { outcome = Ok x.at; out = o }) (listed v w.out.now)
 unfolding listed
-listed_text v b d r room ok w =
-    let t = wrote_front w (omega (arith, listing_fits v ok)) in
-    rw (le-ltb (length b) 664 room, ok, t.0, t.1)
+listed_text v {w = w} is e room ok a =
+    let t = wrote_front e a (omega (arith, listing_fits v ok)) in
+    rw (is, le-ltb (length w.out.now) 664 room, ok, t.0, t.1)

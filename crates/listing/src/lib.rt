@@ -5,19 +5,19 @@ mod lines;
 
 ghost use Rattle.std.specs.Prelude.{◌≡◌, ◌≤◌, length, take};
 ghost use Rattle.volume.specs.Volumes.{view};
-ghost use Rattle.volume.specs.Listing.{listing};
-ghost use Rattle.text.specs.Writes.{Wrote};
+ghost use Rattle.volume.specs.Listing.{listing, printed};
+ghost use Rattle.text.specs.Writes.{HasRoom, Wrote};
 ghost use Rattle.listing.specs.Listed.{listed, to_print};
 
 use crate::lines::{list_clients, list_files};
 use soundness::sound_volume;
 use std::error::Error;
 use std::fmt;
-use text::put;
+use text::Writer;
 use volume::SoundVolume;
 
-// What every listing has in common.
-#[derive(Clone, Copy)]
+// What every listing has in common. They stay associated constants, as `sector`'s (`Sector::SIZE`, `Limits::ENTRIES`).
+#[derive(Clone, Copy, Debug, PartialEq, Eq)]
 pub struct Listing {}
 
 impl Listing {
@@ -47,14 +47,14 @@ impl fmt::Display for ListError {
 
 impl Error for ListError {}
 
-// Writes the lines of a sound volume to the front of `out`, and hands back their length.
-fn list_lines(v: SoundVolume<'_>, out: &mut [u8]) -> usize
-    requires { 664 ≤ length out.old }
-    ensures { Wrote out.old 0 (listing (view v.entry.bytes.now)) out.new result }
+// Writes the lines of a sound volume.
+fn list_lines(v: SoundVolume<'_>, w: &mut Writer<'_>)
+    requires { HasRoom w.old Listing.ROOM }
+    ensures { Wrote (listing (view v.entry.bytes.now)) w.old w.new }
 {
     let v = v.formed();
-    let at = list_clients(v, out);
-    list_files(v, out, at)
+    list_clients(v, w);
+    list_files(v.tabled(), w);
 }
 
 // Writes the listing of the volume to the front of `out`, and leaves the rest as it was. Ruled out: the line of the
@@ -69,12 +69,31 @@ pub fn list(v: &[u8], out: &mut [u8]) -> Result<usize, ListError>
     let Some(v) = sound_volume(v) else {
         return Err(ListError::NotSound);
     };
-    Ok(list_lines(v, out))
+    let mut w = Writer { out, at: 0 };
+    list_lines(v, &mut w);
+    Ok(w.at)
+}
+
+// Writes what the listing program prints.
+#[tactic(auto, unfolding(volume::specs::Listing::printed))]
+fn print_text(v: &[u8], w: &mut Writer<'_>)
+    requires { HasRoom w.old Listing.ROOM }
+    ensures { Wrote (printed v.now) w.old w.new }
+{
+    if Listing::LONGEST < v.len() {
+        w.put(b"too long\n");
+        return;
+    }
+    match sound_volume(v) {
+        Some(v) => list_lines(v, w),
+        None => w.put(b"not sound\n"),
+    }
 }
 
 // Writes what the listing program prints to the front of `out`, and hands back its length: `too long`, `not sound`, or
-// the listing. Ruled out: a volume of 65,537 bytes listed (`must-fail/lists_a_long_one`); nothing printed if the volume
-// is not sound.
+// the listing. It is 0 without room for the longest listing, and no `Option`, which is no plainer: a caller writes out as
+// many bytes as it is told. Ruled out: a volume of 65,537 bytes listed (`must-fail/lists_a_long_one`); nothing printed if
+// the volume is not sound.
 #[tactic(auto, unfolding(crate::specs::Listed::to_print))]
 pub fn print(v: &[u8], out: &mut [u8]) -> usize
     ensures out_after { (record { count = result; out = out.new }) ≡ to_print v.now out.old }
@@ -83,11 +102,7 @@ pub fn print(v: &[u8], out: &mut [u8]) -> usize
     if out.len() < Listing::ROOM {
         return 0;
     }
-    if Listing::LONGEST < v.len() {
-        return put(out, 0, b"too long\n");
-    }
-    let Some(v) = sound_volume(v) else {
-        return put(out, 0, b"not sound\n");
-    };
-    list_lines(v, out)
+    let mut w = Writer { out, at: 0 };
+    print_text(v, &mut w);
+    w.at
 }

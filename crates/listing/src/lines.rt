@@ -1,56 +1,57 @@
 // The lines of a listing, from what a sound volume holds.
-ghost use Rattle.std.specs.Prelude.{◌+◌, ◌≤◌, length};
+#![tactic(auto, using(crate::proofs::LinesLaws::client_length, crate::proofs::LinesLaws::file_length))]
+
+ghost use Rattle.std.specs.Prelude.{length};
 ghost use Rattle.volume.specs.Volumes.{view};
-ghost use Rattle.volume.specs.Listing.{decimal, state_word, client_line, file_line, client_lines, file_lines};
-ghost use Rattle.text.specs.Writes.{Wrote};
+ghost use Rattle.volume.specs.Listing.{client_line, file_line, client_lines, file_lines};
+ghost use Rattle.text.specs.Writes.{HasRoom, Wrote};
 
 use sector::File;
-use text::{put, put_field, put_state};
-use volume::FormedVolume;
+use text::Writer;
+use volume::{FormedVolume, TabledVolume};
 
 // The line of client k, whose record has this state and so many entries.
-fn client_line(out: &mut [u8], at: usize, k: u8, state: u8, count: u8) -> usize
-    requires { at + (8 + length (decimal k) + length (state_word state) + length (decimal count)) ≤ length out.old }
-    ensures { Wrote out.old at (client_line k state count) out.new result }
+fn client_line(w: &mut Writer<'_>, k: u8, state: u8, count: u8)
+    requires { HasRoom w.old (length (client_line k state count)) }
+    ensures { Wrote (client_line k state count) w.old w.new }
 {
-    let word = put_field(out, at, b"kiln ", k);
-    let number = put_state(out, word, state);
-    let end = put_field(out, number, b" ", count);
-    put(out, end, b"\n")
+    w.put_field(b"kiln ", k);
+    w.put_state(state);
+    w.put_field(b" ", count);
+    w.put(b"\n");
 }
 
-// The lines of all clients, at the front.
-pub fn list_clients(v: FormedVolume<'_>, out: &mut [u8]) -> usize
-    requires { (length (client_lines (view v.bytes.now)) ≤ length out.old) }
-    ensures { Wrote out.old 0 (client_lines (view v.entry.bytes.now)) out.new result }
+// The lines of all clients.
+pub fn list_clients(v: FormedVolume<'_>, w: &mut Writer<'_>)
+    requires { HasRoom w.old (length (client_lines (view v.bytes.now))) }
+    ensures { Wrote (client_lines (view v.entry.bytes.now)) w.old w.new }
 {
-    let mut at = 0;
     for k in 1..=v.clients() {
-        at = client_line(out, at, k, v.state(k), v.entry_count(k));
+        let c = v.client(k);
+        client_line(w, k, c.state(), c.entry_count());
     }
-    at
 }
 
 // The line of file f, with its holder, pages and slots.
-fn file_line(out: &mut [u8], at: usize, f: u8, holder: u8, x: File) -> usize
-    requires { at + (28 + length (decimal f) + length (decimal holder) + length (decimal x.pages) + length (decimal x.slots)) ≤ length out.old }
-    ensures { Wrote out.old at (file_line f holder x.pages x.slots) out.new result }
+fn file_line(w: &mut Writer<'_>, f: u8, holder: u8, x: File)
+    requires { HasRoom w.old (length (file_line f holder x.pages x.slots)) }
+    ensures { Wrote (file_line f holder x.pages x.slots) w.old w.new }
 {
-    let by = put_field(out, at, b"file ", f);
-    let of = put_field(out, by, b" kiln ", holder);
-    let over = put_field(out, of, b" pages ", x.pages);
-    let end = put_field(out, over, b" sectors ", x.slots);
-    put(out, end, b"\n")
+    w.put_field(b"file ", f);
+    w.put_field(b" kiln ", holder);
+    w.put_field(b" pages ", x.pages);
+    w.put_field(b" sectors ", x.slots);
+    w.put(b"\n");
 }
 
-// The lines of all files, from `start` on.
-pub fn list_files(v: FormedVolume<'_>, out: &mut [u8], start: usize) -> usize
-    requires { (start + length (file_lines (view v.bytes.now)) ≤ length out.old) }
-    ensures { Wrote out.old start (file_lines (view v.entry.bytes.now)) out.new result }
+// The lines of all files.
+// Like `list_clients`, but each line has other fields: one over a closure for the line would be no plainer.
+pub fn list_files(v: TabledVolume<'_>, w: &mut Writer<'_>)
+    requires { HasRoom w.old (length (file_lines (view v.bytes.now))) }
+    ensures { Wrote (file_lines (view v.entry.bytes.now)) w.old w.new }
 {
-    let mut at = start;
     for f in 1..=v.files() {
-        at = file_line(out, at, f, v.holder(f), v.file(f));
+        let x = v.file(f);
+        file_line(w, f, x.holder(), x.shape());
     }
-    at
 }

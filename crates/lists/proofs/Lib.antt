@@ -3,3 +3,4 @@ pub mod SearchLaws
 pub mod TestLaws
 pub mod CaseLaws
 pub mod CountLaws
+pub mod RangeLaws

@@ -11,7 +11,7 @@ use native.Mathlib.Nat.{add-zero, not-suc-le-zero, le_of_suc-le-suc}
 use native.Mathlib.Omega.{arith}
 use borrow.Author.Tests.{leb-true, eqb-false, eq-eqb, ne_eqb, not-true}
 use lib.Dec.{eqb, leb}
-use lib.ListN.{length, get_or, set, drop, drop_of_length-le, get_elem?}
+use lib.ListN.{length, get_or, set, drop, get_elem?}
 use Rattle.lists.specs.Lists.{when◌then◌else◌, first, every, any, filter, find, distinct, member, from}
 use Rattle.lists.proofs.ListLaws.{and_left, and_right, and_both, or_none, no_both}
 use Rattle.lists.proofs.CaseLaws.{by_equal, if_test}
@@ -135,18 +135,6 @@ module _ {A : Type 0} where
       go ih true = refl
       go ih false = ih
 
--- ------------------------------------------------------------------ a loop that searches a list, by index
--- What is left to search decides what is found.
-module _ {A : Type 0} (xs : List A) (i : ℕ) (x : A) (next : drop i xs ≡ x ∷ drop (i + 1) xs) (t : A → Bool) where
-  pub find_more : (w : Option A) → w ≡ find t (drop i xs) → t x ≡ false → w ≡ find t (drop (i + 1) xs)
-  find_more w q e = q ∙ rw (next, e)
-
-  pub find_hit : (w : Option A) → w ≡ find t (drop i xs) → t x ≡ true → w ≡ some x
-  find_hit w q e = q ∙ rw (next, e)
-
-pub find_done : {A : Type 0} (xs : List A) (i : ℕ) → length xs ≤ i → (t : A → Bool) (w : Option A) → w ≡ find t (drop i xs) → w ≡ none
-find_done xs i end t w q = q ∙ ap (find t) (drop_of_length-le xs {i = i} end)
-
 -- ------------------------------------------------------------------ the first test that holds
 -- None does: each test fails, if none of the numbers is 0.
 pub first_none : (xs : List (ℕ × Bool)) (i : ℕ) → every (λ x. leb 1 x.0) xs ≡ true → first xs ≡ 0 → (get_or xs i (0, false)).1 ≡ false
@@ -171,15 +159,6 @@ unfolding first
 first_accepts n [] ys pos z e = e
 first_accepts n ((m, true) ∷ xs) ys pos z e = absurd (not-suc-le-zero {n = 0} (omega (arith, leb-true 1 m (and_left (leb 1 m) _ pos))))
 first_accepts n ((m, false) ∷ xs) ys pos z e = first_accepts n xs ys (and_right (leb 1 m) _ pos) z e
-
--- A part of one test.
-pub one_holds : (n : ℕ) {b : Bool} → b ≡ true → n ≡ first ((n, b) ∷ [])
-unfolding first
-one_holds n e = rw e
-
-pub one_fails : (n : ℕ) {b : Bool} → b ≡ false → 0 ≡ first ((n, b) ∷ [])
-unfolding first
-one_fails n e = rw e
 
 -- ------------------------------------------------------------------ a list of marks
 pub no_mark : (l : List Bool) (i : ℕ) → any (λ b. b) l ≡ false → get_or l i false ≡ false

@@ -7,14 +7,14 @@ use mathlib.Core.List.{List, [], ◌∷◌}
 use Prim.Native.Nat.{ℕ, zero, suc, ◌+◌, ◌-◌, ◌<◌, ◌≤◌, ◌*◌}
 use native.Mathlib.Numerals.{add-one}
 use native.Mathlib.Omega.{arith}
-use borrow.Author.Tests.{eqb-true, eq-eqb, ltb-true, lt-ltb, ne_eqb}
+use borrow.Author.Tests.{eqb-true, eq-eqb, ltb-true, ltb-false, lt-ltb, ne_eqb}
 use lib.Bits.{bit_or, or_add_and, and_le_l, and_le_r}
 use lib.Dec.{eqb, ltb}
 use lib.ListN.{length, get_or, drop, drop_of_length-le}
 use lib.Seq.{drop-cons}
 use Rattle.lists.specs.Lists.{all, every, any, from}
-use Rattle.lists.proofs.ListLaws.{and_left, and_right, and_both, all_nil, all_cons}
-use Rattle.lists.proofs.CaseLaws.{or_turn}
+use Rattle.lists.proofs.ListLaws.{and_left, and_right, and_both, all_nil, all_cons, every_all, every_from}
+use Rattle.lists.proofs.CaseLaws.{by_test, or_turn}
 
 -- Tests that hold together are equal.
 pub iff : (a b : Bool) → (a ≡ true → b ≡ true) → (b ≡ true → a ≡ true) → a ≡ b
@@ -128,15 +128,20 @@ module _ (t : ℕ → Bool) (w : Bool) (n i : ℕ) (q : w ≡ every t (from i (n
   pub numbers_more : i < n → t i ≡ true → w ≡ every t (from (i + 1) (n - (i + 1)))
   numbers_more h e = let m : n - i ≡ suc (n - (i + 1)) = omega arith in q ∙ rw (m, e, add-one i)
 
-  pub numbers_fail : i < n → t i ≡ false → w ≡ false
-  numbers_fail h e = let m : n - i ≡ suc (n - (i + 1)) = omega arith in q ∙ rw (m, e)
-
   pub numbers_done : n ≤ i → w ≡ true
   numbers_done h = let m : n - i ≡ 0 = omega arith in q ∙ rw m
 
 -- Where it begins: n numbers, below m.
 pub numbers_none : (t : ℕ → Bool) (i n m : ℕ) → m ≡ i + n → every t (from i n) ≡ every t (from i (m - i))
 numbers_none t i n m e = let k : m - i ≡ n = omega arith in rw k
+
+-- Where every number from a + m on passes, the m before them decide.
+pub every_front : (t : ℕ → Bool) (n m a : ℕ) → m ≤ n → ((i : ℕ) → a + m ≤ i → i < a + n → t i ≡ true) → every t (from a n) ≡ every t (from a m)
+every_front t n m a h rest = iff _ _ (λ e. every_all t m a (λ i lo hi. every_from t n a e i lo (omega (arith, hi, h)))) (λ e. every_all t n a (whole e))
+  where
+    whole : every t (from a m) ≡ true → (i : ℕ) → a ≤ i → i < a + n → t i ≡ true
+    whole e i lo hi =
+        by_test (ltb i (a + m)) (λ q. every_from t m a e i lo (ltb-true _ _ q)) (λ q. rest i (ltb-false _ _ q) hi)
 
 -- Two tests of each number, together or one after the other.
 pub every_both : (t a b : ℕ → Bool) (n i : ℕ) → ((k : ℕ) → i ≤ k → k < i + n → t k ≡ (a k && b k))

@@ -14,7 +14,9 @@ use lib.Dec.{eqb, leb, ltb}
 use lib.ListN.{length, replicate}
 use Rattle.lists.specs.Lists.{all, every, any, distinct}
 use Rattle.sector.specs.Contents.{Bytes, Table, Entry}
-use Rattle.sector.specs.Decoding.{file_count_in, header_sector_in, file_in, state_in, count_in, decode_table, decode_record}
+use Rattle.sector.specs.Decoding.{file_count_in, header_sector_in, file_in, state_in, count_in, decode_table, decode_entries, decode_record}
+use Rattle.sector.specs.Walks.{entries_left}
+use Rattle.sector.specs.declared.layout.Entries.{Entries}
 use Rattle.lists.proofs.ListLaws.{and_left, and_right, all_at, between_true}
 use Rattle.lists.proofs.CaseLaws.{by_test}
 use Rattle.lists.proofs.TestLaws.{all_no, all_of, none, ◌also◌}
@@ -29,7 +31,7 @@ use Rattle.sector.specs.Encoded.{is_record_encoding}
 use Rattle.table_test.specs.Table.{table_sound}
 use Rattle.record_test.specs.Record.{state_fits, entries_fit, sector_for, page_sector, slot_sector, InRange, record_sound}
 use Rattle.sector.proofs.EncodedLaws.{record_few}
-use Rattle.table_test.proofs.DecodingLaws.{file_is, no_entry_lem}
+use Rattle.table_test.proofs.DecodingLaws.{file_is}
 use Rattle.byteset.proofs.WalkLaws.{Walk, walk_none, walk_seen, walk_more, walk_done}
 use Rattle.table_test.proofs.TableLaws.{facts, is_table, header_in_lem}
 
@@ -199,6 +201,6 @@ module _ (tb : Bytes) (ok : table_sound tb ≡ true) where
   entries_done {es} l = entries_are es ∙ all_of (l.fit also (walk_done l.by_page).0 also (walk_done l.by_slot).0 also none)
 
 -- There is nothing to test.
-pub entries_none : (t : Table) (d : Bytes) → count_in d < 1 → entries_fit t (decode_record d).entries ≡ true
-unfolding entries_fit all
-entries_none t d h = rw (no_entry_lem d 0 (omega arith))
+pub entries_none : (t : Table) (s : Entries) → eqb (length s.items.now) 0 ≡ true → entries_fit t (entries_left s) ≡ true
+unfolding entries_fit all decode_entries
+entries_none t s e = rw (eqb-true (length s.items.now) 0 e)

@@ -1,6 +1,6 @@
--- A header and a record as they are read from a well-formed volume, for the header that recovery builds: the bytes decode to what
--- the view has, and every entry's page is one of its file, so that its place is in the map.
-use mathlib.Core.Path.{◌≡◌, sym, ap, ◌∙◌}
+-- A header as it is read from a well-formed volume, and the entries by which it is redone: the bytes encode what the view has, and
+-- every entry's page is one of its file, so that its place is in the map.
+use mathlib.Core.Path.{◌≡◌, ◌∙◌}
 use mathlib.Core.Bool.{true, not, ◌||◌}
 use Prim.Native.Nat.{ℕ, ◌≤◌, ◌<◌}
 use native.Mathlib.Omega.{arith}
@@ -10,16 +10,14 @@ use lib.ListN.{length}
 use Rattle.sector.specs.Contents.{Bytes, Entry}
 use Rattle.sector.specs.Encoding.{encode_header}
 use Rattle.sector.specs.Entries.{for_file, pages_below, file_pages_below}
-use Rattle.sector.specs.Decoding.{count_in, decode_record}
 use Rattle.lists.proofs.ListLaws.{all_at}
 use Rattle.lists.proofs.CaseLaws.{by_equal}
 use Rattle.lists.proofs.SearchLaws.{or_true, every_implies}
-use Rattle.volume.specs.Places.{IsClient, IsFile, file_at, record_place, header_place}
+use Rattle.volume.specs.Places.{IsClient, IsFile, file_at, header_place}
 use Rattle.volume.specs.Lawful.{entry_fits}
 use Rattle.volume.specs.Volumes.{Volume, bytes_at, view}
 use Rattle.volume.specs.WellFormed.{WellFormed}
-use Rattle.volume.proofs.AccessLaws.{record_is}
-use Rattle.volume.proofs.ReadLaws.{few_pages, few_entries, count_in_lem}
+use Rattle.volume.proofs.ReadLaws.{few_pages}
 
 module _ (v : Volume) (formed : WellFormed v) where
   pub header_read : (f : ℕ) → IsFile (view v).table f → (d : Bytes) → d ≡ bytes_at (view v).table v (header_place f)
@@ -27,9 +25,6 @@ module _ (v : Volume) (formed : WellFormed v) where
   header_read f i d e = e ∙ formed.header_bytes f i.low i.high
 
   module _ (k : ℕ) (client : IsClient (view v).table k) where
-    pub record_read : (d : Bytes) → d ≡ bytes_at (view v).table v (record_place k) → decode_record d ≡ (view v).records k
-    record_read d e = ap decode_record e ∙ sym (record_is v k client.low client.high)
-
     -- What holds of each entry that fits.
     page_fits : (e : Entry) → entry_fits (view v).table e ≡ true
         → (e.page < (file_at (view v).table e.file).pages) × ((file_at (view v).table e.file).pages ≤ 120)
@@ -38,15 +33,11 @@ module _ (v : Volume) (formed : WellFormed v) where
       few_pages v formed.tabled e.file (record { low = leb-true _ _ (all_at _ 0 fits); high = leb-true _ _ (all_at _ 1 fits) }),
     )
 
-    pages_low : pages_below 248 ((view v).records k).entries ≡ true
-    pages_low = every_implies (entry_fits (view v).table) (λ (e : Entry). ltb e.page 248)
+    -- So a header's map may be redone by the client's entries.
+    pub redo_allowed : pages_below 248 ((view v).records k).entries ≡ true
+    redo_allowed = every_implies (entry_fits (view v).table) (λ (e : Entry). ltb e.page 248)
         (λ e fits. lt-ltb e.page 248 (omega (arith, page_fits e fits))) ((view v).records k).entries
         (all_at _ 2 (formed.record_fits k client.low client.high))
-
-    -- So a header's map may be redone by it.
-    pub redo_allowed : (d : Bytes) → d ≡ bytes_at (view v).table v (record_place k)
-        → (count_in d ≤ 62) × (pages_below 248 (decode_record d).entries ≡ true)
-    redo_allowed d e = (rw (e, count_in_lem v formed k client) (few_entries v formed k client), rw (record_read d e) pages_low)
 
     pub pages_inside : (f : ℕ) → IsFile (view v).table f → file_pages_below f (length ((view v).headers f).map) ((view v).records k).entries ≡ true
     pages_inside f i = every_implies (entry_fits (view v).table) (λ (e : Entry). not (for_file f e) || ltb e.page (length ((view v).headers f).map))

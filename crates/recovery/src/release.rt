@@ -11,31 +11,33 @@ ghost use Rattle.recovery.specs.Work.{recovery_now, freed, release_of};
 
 use sector::State;
 use stores::{Crashed, Run};
-use volume::FormedVolume;
+use volume::{FormedVolume, TabledVolume, VolumeClient};
 
 // What stores is lent the bytes, with `WellFormed` in a clause (`stores` says why); what reads takes a volume that is known to be so.
 
-// The header that recovery of client k leaves for file f is built.
-// `redo` is a flag, as in the definition `recovery`: a closure in its place is no plainer, since each contract speaks of it.
-fn free_header(buf: &mut [u8; 256], v: FormedVolume<'_>, k: u8, redo: bool, f: u8)
-    requires { IsClient (view v.bytes.now).table k × IsFile (view v.bytes.now).table f }
-    ensures buf_after { buf.new ≡ encode_header (file_at (view v.entry.bytes.now).table f) (freed redo (view v.entry.bytes.now) k f) }
+// The header that recovery of the client leaves for file f.
+// `redo` is a flag, as in the definition `recovery`: a closure in its place is no plainer, since each contract speaks of it. The file is
+// given by its number beside the client: a second value that knows its volume would take a clause that the two volumes are one.
+fn free_header(c: VolumeClient<'_>, redo: bool, f: u8) -> [u8; 256]
+    requires { IsFile (view c.volume.bytes.now).table f }
+    ensures { result ≡ encode_header (file_at (view c.entry.volume.bytes.now).table f) (freed redo (view c.entry.volume.bytes.now) c.entry.number f) }
 {
-    sector::load(buf, v.tabled().header(f));
-    sector::set_holder(buf, 0);
+    let mut buf = *c.volume.tabled().file(f).header();
+    sector::set_holder(&mut buf, 0);
     if redo {
-        sector::redo_map(buf, v.record(k), f);
+        sector::redo_map(&mut buf, c.entries(), f);
     }
+    buf
 }
 
 // File f, which client k holds, is freed.
+// It and `put_empty_record` stay two, as `transaction`'s three.
 fn free_file(v: &mut [u8], k: u8, redo: bool, f: u8, run: Run) -> Result<Run, Crashed>
     requires { WellFormed v.old × IsClient (view v.old).table k × IsFile (view v.old).table f × (((view v.old).headers f).holder ≡ k) }
     ensures { UpdatesMade v.old (Ok run) (release_of redo (view v.old) k f) v.new result }
 {
-    let mut buf = sector::zeros();
-    free_header(&mut buf, FormedVolume { bytes: v }, k, redo, f);
-    stores::put_header(v, f, &buf, run)
+    let header = free_header(FormedVolume { bytes: v }.client(k), redo, f);
+    stores::put_header(v, f, &header, run)
 }
 
 // Client k's record is put in this state, with no entries.
@@ -54,10 +56,10 @@ fn release(v: &mut [u8], k: u8, redo: bool, mut run: Run) -> Result<Run, Crashed
     ensures updates_made { UpdatesMade v.old (Ok run) (recovery redo (view v.old) k) v.new result }
     ensures all_made { OnOk result (AllMade v.old (recovery redo (view v.old) k) v.new) }
 {
-    let files = FormedVolume { bytes: v }.files();
-    for f in 1..files + 1 {
-        let formed = FormedVolume { bytes: v };
-        if formed.holder(f) == k {
+    let files = TabledVolume { bytes: v }.files();
+    for f in 1..=files {
+        let x = TabledVolume { bytes: v }.file(f);
+        if x.holder() == k {
             run = free_file(v, k, redo, f, run)?;
         }
     }
@@ -70,12 +72,12 @@ pub fn recover(v: &mut [u8], k: u8, run: Run) -> Result<Run, Crashed>
     ensures updates_made { UpdatesMade v.old (Ok run) (recovery_now (view v.old) k) v.new result }
     ensures all_made { OnOk result (AllMade v.old (recovery_now (view v.old) k) v.new) }
 {
-    // The state byte itself is matched, and no enum of it: document 01 names this form.
-    let state = FormedVolume { bytes: v }.state(k);
+    // The state byte itself is matched, and no enum of it: a rule, document 01 names this form.
+    let state = FormedVolume { bytes: v }.client(k).state();
     match state {
-        0 => Ok(run),
-        1 => release(v, k, false, run),
-        2 => release(v, k, true, run),
+        State::IDLE => Ok(run),
+        State::OPEN => release(v, k, false, run),
+        State::DECIDED => release(v, k, true, run),
         // Never taken: no sound volume has another byte there. The soundness test has refused it by 1 before, and `WellFormed` says
         // that the record fits.
         _ => Ok(run),

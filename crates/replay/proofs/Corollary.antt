@@ -5,7 +5,9 @@ use mathlib.Core.Bool.{Bool, true, false}
 use mathlib.Core.List.{List, [], ◌∷◌}
 use Prim.Native.Nat.{ℕ, zero, suc}
 use lib.ListN.{length, take, drop}
-use Rattle.std.specs.Prelude.{Ok}
+use Rattle.std.specs.Prelude.{Result, Ok, Err, ⊤}
+use Rattle.interface.specs.declared.Refusal.{Refusal}
+use Rattle.replay.specs.declared.ReplayError.{ReplayError}
 use Rattle.interface.specs.declared.Session.{Session}
 use Rattle.interface.specs.Answers.{new_session, FormatAnswer, format_done, format_refused}
 use Rattle.lists.specs.Lists.{when◌then◌else◌}
@@ -74,6 +76,17 @@ module _ (v : Volume) (T : ℕ) (l script out : Bytes) where
       → (left_by x w out' ≡ formatted_and_run v T l script out)
       × WhereRun (replay_answer_of x.ended) (AllOrNoneFor (table_for (length v) T l) script w out')
   claimed x w out' e = (e, subst (Claimed (table_for (length v) T l) script) (sym e) replay_all_or_none)
+
+  -- The ways in which it ends: the format was refused, or the script was run on what it left.
+  module _ (o : Result ⊤ Refusal) (w : Volume) (f : formatted o w ≡ format v T l) (room : has_room script (length out) ≡ true) where
+    pub not_formatted_lem : (x : Refusal) → o ≡ Err x
+        → left_by (record { ended = Err (ReplayError.NotFormatted x); session = new_session }) w out ≡ formatted_and_run v T l script out
+    not_formatted_lem x e = rw (room, ← f, e)
+
+    pub run_formatted_lem : (q : Session) (w' out' : Bytes) → o ≡ Ok tt
+        → record { answer = ran; session = q; volume = w'; out = out' } ≡ run_left (started w) script out
+        → left_by (record { ended = Ok tt; session = q }) w' out' ≡ formatted_and_run v T l script out
+    run_formatted_lem q w' out' e g = rw (room, ← f, e) g
 
   -- So it is where the format was done, and then the script was run on what it left.
   pub run_claimed : {w : Volume} {q : Session} {w' out' : Bytes} → formatted (Ok tt) w ≡ format v T l

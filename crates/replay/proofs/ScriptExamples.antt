@@ -22,6 +22,7 @@ use Rattle.commands.specs.Commands.{step_of}
 use Rattle.replay.specs.Scripts.{action_of, command_in, is_whole, step_in, steps_from, steps}
 use Rattle.replay.specs.Transcripts.{head_bytes, entry_of, transcript, event_in, events_in}
 use Rattle.replay.specs.Replays.{ran, has_room, AllOrNoneFor, WhereRun}
+use Rattle.replay.specs.Walks.{pieces_from, pieces}
 
 -- ------------------------------------------------------------------ scripts
 -- Begin 1 with a budget of 255; the supply fails, and client 2 opens file 3 with a budget of 4; a write of three bytes; commit,
@@ -71,6 +72,12 @@ page_step = refl
 cut_step : steps (2 ∷ 0 ∷ 1 ∷ 1 ∷ 0 ∷ 255 ∷ 3 ∷ 0 ∷ 0xAA ∷ 0xBB ∷ []) ≡ []
 unfolding steps_from step_in command_in step_of is_whole
 cut_step = refl
+
+-- The bytes of a step without data and of one with a byte of it; three bytes more are no step.
+two_pieces : pieces (0 ∷ 0 ∷ 1 ∷ 0 ∷ 0 ∷ 255 ∷ 0 ∷ 0 ∷ 2 ∷ 0 ∷ 1 ∷ 2 ∷ 5 ∷ 6 ∷ 1 ∷ 0 ∷ 0xAA ∷ 0 ∷ 0 ∷ 1 ∷ [])
+    ≡ (0 ∷ 0 ∷ 1 ∷ 0 ∷ 0 ∷ 255 ∷ 0 ∷ 0 ∷ []) ∷ (2 ∷ 0 ∷ 1 ∷ 2 ∷ 5 ∷ 6 ∷ 1 ∷ 0 ∷ 0xAA ∷ []) ∷ []
+unfolding pieces_from is_whole
+two_pieces = refl
 
 -- Twelve bytes for each of the six calls, 524 for each question: 1,644 are enough, 1,643 are not.
 enough_room : has_room script 1644 ≡ true

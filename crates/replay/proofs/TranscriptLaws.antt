@@ -1,25 +1,24 @@
 -- The entries of a transcript: how long each is, whatever a step says, and that what is noted of a command is what its step says.
 use mathlib.Core.Path.{◌≡◌, refl, sym, ap, subst, ◌∙◌}
-use mathlib.Core.List.{List, [], ◌∷◌, ◌++◌, append-nil, append_assoc}
+use mathlib.Core.List.{List, [], ◌∷◌, ◌++◌, append-nil}
 use Prim.Native.Nat.{ℕ, ◌+◌, ◌*◌, ◌-◌, ◌≤◌}
 use native.Mathlib.Omega.{arith}
-use lib.ListN.{length, take, drop, set, length-append, length-take, replicate, length-replicate}
-use lib.Seq.{sets, sets-eq, length-sets, drop-drop}
-use borrow.Rule.Slice.PartMut.{put_mid}
+use lib.ListN.{length, take, drop, length-append, length-take, replicate}
+use lib.Seq.{sets, sets-eq}
 use Rattle.std.specs.Prelude.{Result, Ok, Err}
 use Rattle.interface.specs.declared.Session.{Session}
 use Rattle.interface.specs.declared.Refusal.{Refusal}
 use Rattle.interface.specs.declared.Outcome.{Outcome}
 use Rattle.interface.specs.Answers.{Answer, done, crashed, refused, QueryAnswer, found, query_refused, refusal_number, answer_of, query_answer_of}
 use Rattle.sector.specs.Contents.{Bytes}
-use Rattle.sector.specs.Sectors.{sector, byte, word, padded}
+use Rattle.sector.specs.Sectors.{sector, word, padded}
 use Rattle.volume.specs.Volumes.{Volume}
 use Rattle.sector.proofs.CodecLaws.{padded_length}
 use Rattle.sector.proofs.SectorLaws.{sector_length}
 use Rattle.calls.proofs.PageLaws.{Inside, query_inside}
 use Rattle.rules.specs.Plans.{Call, Query}
 use Rattle.rules.specs.Calls.{query, part_of, query_part}
-use Rattle.text.specs.Writes.{Wrote, at_front}
+use Rattle.text.specs.Writes.{at_front}
 use Rattle.atomicity.specs.Model.{Model}
 use Rattle.atomicity.specs.Runs.{Step, calls, asks, Configuration, given, stepped}
 use Rattle.atomicity.specs.Transcripts.{StepAnswer, of_call, of_query, event_of, events_of}
@@ -29,7 +28,7 @@ use Rattle.commands.specs.declared.Told.{Told}
 use Rattle.commands.specs.declared.Performed.{Performed}
 use Rattle.commands.specs.Commands.{query_of, step_by, step_of, told_of, run_of, IsPerformed}
 use Rattle.commands.proofs.CommandLaws.{step_by_lem}
-use Rattle.replay.specs.Scripts.{action_of, command_in, step_in}
+use Rattle.replay.specs.Scripts.{command_in, step_in}
 use Rattle.replay.specs.Transcripts.{head_bytes, answer_bytes, entry_of, transcript, entry_length, transcript_length}
 use Rattle.replay.specs.Walks.{action_length, noted, IsAnswer}
 
@@ -178,22 +177,14 @@ by_length Action.Abort c d = refl
 by_length Action.Read c d = refl
 by_length Action.Look c d = refl
 
--- The entry of the step at the front, by its first byte.
-step_entry : (l : Bytes) → action_length (action_of (byte l 0)) ≡ entry_length (step_in l)
-unfolding step_in command_in step_of
-step_entry l = by_length (action_of (byte l 0)) (command_in l) (take (word l 6) (drop 8 l))
+-- The entry of the step at the front, by its command.
+step_entry : (l : Bytes) → action_length (command_in l).action ≡ entry_length (step_in l)
+unfolding step_in step_of
+step_entry l = by_length (command_in l).action (command_in l) (take (word l 6) (drop 8 l))
 
--- The length of the entry of the first step, as it is computed from the step's first byte.
-pub entry_is : (l : Bytes) {a : Action} {e : ℕ} → a ≡ action_of (byte l 0) → e ≡ action_length a → e ≡ entry_length (step_in l)
-entry_is l i j = j ∙ ap action_length i ∙ step_entry l
-
--- One byte.
-pub wrote_byte : (b : Bytes) (at x : ℕ) → Wrote b at (x ∷ []) (set b at x) (at + 1)
-wrote_byte b at x = record { bytes = refl; next = refl }
-
--- What was written has kept the length of the buffer.
-pub wrote_length : {b d c : Bytes} {at n : ℕ} → Wrote b at d c n → length c ≡ length b
-wrote_length {b} {d} {c} {at} w = ap length w.bytes ∙ length-sets b at d
+-- The length of the entry of the first step, as it is computed from the step's command.
+pub entry_is : (l : Bytes) {c : Command} {e : ℕ} → c ≡ command_in l → e ≡ action_length c.action → e ≡ entry_length (step_in l)
+entry_is l i j = j ∙ ap (λ (c : Command). action_length c.action) i ∙ step_entry l
 
 -- A question's entry, by its outcome.
 module _ (v : Volume) (s : Session) (c : Command) (o : Result ℕ Refusal) (q : Session)
@@ -216,19 +207,7 @@ module _ (v : Volume) (s : Session) (c : Command) (o : Result ℕ Refusal) (q : 
 pub shown_length : (v : Volume) (s : Session) (q : Query) → length (query_part v s q) ≤ 256
 shown_length v s q = part_length v (query v s q)
 
--- The middle of a buffer filled with zeros: two empty pages, padded, were written.
-zero_pages : replicate 512 0 ≡ padded [] ++ padded []
+-- Zeros for two empty pages.
+pub zero_pages : replicate 512 0 ≡ padded [] ++ padded []
 unfolding padded
 zero_pages = refl
-
-wrote_part : (b : Bytes) (at k : ℕ) (d : Bytes) → length d ≡ k → at + k ≤ length b → put_mid at k b d ≡ sets b at d
-wrote_part b at k d e h =
-    let z : sets b at d ≡ take at b ++ d ++ drop (at + length d) b = sets-eq d b at (omega arith) in
-    rw (drop-drop k at b, z, e) (sym (append_assoc (take at b) d (drop (at + k) b)))
-
-pub wrote_zeros : (b : Bytes) (at k n : ℕ) (d : Bytes) → k ≡ 512 → n ≡ 512 → at + 512 ≤ length b → d ≡ replicate n 0
-    → Wrote b at (padded [] ++ padded []) (put_mid at k b d) (at + 512)
-wrote_zeros b at k n d e m h f =
-    let g : d ≡ padded [] ++ padded [] = rw (f, m) zero_pages in
-    let i : length d ≡ 512 = rw (f, m) (length-replicate {A = ℕ} 512 0) in
-    record { bytes = rw (← g, e) (wrote_part b at 512 d i h); next = rw (← g, i) }

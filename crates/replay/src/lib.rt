@@ -29,6 +29,7 @@ pub enum ReplayError {
     NotFormatted(Refusal),
 }
 
+// A format that was refused. Ruled out: told as no room (`must-fail/refused_as_no_room`); by another number.
 impl From<Refusal> for ReplayError {
     ghost from_gives = { λ r e. e ≡ ReplayError.NotFormatted r };
 

@@ -1,37 +1,27 @@
 // The steps of a script performed one after the other, each noted in the transcript.
-ghost use Rattle.std.specs.Prelude.{◌≡◌, ◌+◌, ◌≤◌, length, Some};
+ghost use Rattle.std.specs.Prelude.{◌≡◌, ◌≤◌, length};
 ghost use Rattle.atomicity.specs.Model.{Model};
 ghost use Rattle.commands.specs.Commands.{run_of};
+ghost use Rattle.text.specs.Writes.{HasRoom};
 ghost use Rattle.replay.specs.Scripts.{steps, step_in};
 ghost use Rattle.replay.specs.Transcripts.{entry_length, transcript_length};
 ghost use Rattle.replay.specs.Replays.{run_left, ran};
-ghost use Rattle.replay.specs.Walks.{step_length, IsStepped};
+ghost use Rattle.replay.specs.Walks.{IsPiece, IsStepped};
 
-use crate::steps::{HEAD, first_command, step_length};
+use crate::steps::{HEAD, Steps, first_command};
 use crate::transcript::put_entry;
 use interface::Session;
+use text::Writer;
 
-// What a step leaves besides the volume: the session last handed back, and the position after its entry.
-#[derive(Clone, Copy)]
-struct Stepped {
-    session: Session,
-    next: usize,
-}
-
-// Performs the step of n bytes at the front of the script, and writes its entry at `to`.
-fn step(v: &mut [u8], s: Session, script: &[u8], n: usize, out: &mut [u8], to: usize) -> Stepped
-    requires { (Some n ≡ step_length script.now) × (8 ≤ n) × (n ≤ length script.now)
-        × (to + entry_length (step_in script.now) ≤ length out.old) }
-    ensures { (m : Model) → IsStepped (run_of v.old s m) (step_in script.now)
-        v.new result.session out.old to out.new result.next }
+// Performs the step of these bytes, and writes its entry. Hands back the session after it.
+fn step(v: &mut [u8], s: Session, bytes: &[u8], w: &mut Writer<'_>) -> Session
+    requires { IsPiece bytes.now × HasRoom w.old (entry_length (step_in bytes.now)) }
+    ensures { (m : Model) → IsStepped (run_of v.old s m) (step_in bytes.now) v.new result w.old w.new }
 {
-    let c = first_command(script);
-    let p = commands::perform(v, s, c, &script[HEAD..n]);
-    let next = put_entry(v, s, c, p, out, to);
-    Stepped {
-        session: p.session,
-        next,
-    }
+    let c = first_command(bytes);
+    let p = commands::perform(v, s, c, &bytes[HEAD..]);
+    put_entry(w, v, s, c, p);
+    p.session
 }
 
 // Performs all steps, in order.
@@ -40,14 +30,10 @@ pub fn run_steps(v: &mut [u8], s: Session, script: &[u8], out: &mut [u8]) -> Ses
     ensures { (m : Model) → (record { answer = ran; session = result; volume = v.new; out = out.new })
         ≡ run_left (run_of v.old s m) script.now out.old }
 {
+    let mut w = Writer { out, at: 0 };
     let mut last = s;
-    let mut to = 0;
-    let mut rest = script;
-    while let Some(n) = step_length(rest) {
-        let done = step(v, last, rest, n, out, to);
-        last = done.session;
-        to = done.next;
-        rest = &rest[n..];
+    for bytes in Steps::of(script) {
+        last = step(v, last, bytes, &mut w);
     }
     last
 }

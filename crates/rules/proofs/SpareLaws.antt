@@ -5,11 +5,10 @@ use mathlib.Core.Path.{◌≡◌, refl, ap, ◌∙◌}
 use mathlib.Core.Bool.{true, false}
 use Prim.Native.Nat.{ℕ, zero, suc}
 use lib.ListN.{length}
-use borrow.Author.Tests.{not-false}
 use Rattle.interface.specs.Answers.{counted}
-use Rattle.lists.specs.Lists.{all, first, member, from}
+use Rattle.lists.specs.Lists.{first, member, from}
 use Rattle.lists.proofs.CaseLaws.{by_test}
-use Rattle.lists.proofs.SearchLaws.{first_none, from_length}
+use Rattle.lists.proofs.SearchLaws.{from_length}
 use Rattle.lists.proofs.CountLaws.{count_both, count_members, count_others}
 use Rattle.sector.specs.Contents.{Bytes}
 use Rattle.sector.specs.Sectors.{sector}
@@ -18,11 +17,9 @@ use Rattle.sector.specs.Decoding.{decode_table, spare_in}
 use Rattle.sector.proofs.CodecLaws.{header_mark_lem, header_spare}
 use Rattle.volume.specs.Places.{IsFile, is_file, file_at}
 use Rattle.volume.specs.Volumes.{Volume, table_of, view}
-use Rattle.volume.specs.WellFormed.{TableFormed}
 use Rattle.volume.specs.Sound.{sound, table_sound_in}
 use Rattle.volume.proofs.PlaceLaws.{is_file_lem, file_of}
 use Rattle.volume.proofs.LawfulLaws.{MapFacts}
-use Rattle.volume.proofs.WellFormedLaws.{table_formed}
 use Rattle.volume.proofs.SoundLaws.{fine, sound_table}
 use Rattle.rules.specs.Spare.{header_of, spare_tests, spare_by, spare, SpareReads, SpareIsCount, SlotsTogether, SlotOfEachPage}
 
@@ -59,17 +56,6 @@ spare_reads v w f n e h =
     by_test (is_file (view v).table f) (λ y. same_header v w f n e (h (file_of (view v).table f y))) (no_header_lem v w f n e)
 
 -- ------------------------------------------------------------------ what its tests leave
-pub record MayAsk (v : Volume) (f : ℕ) : Type 0 where
-  pub tabled : TableFormed v
-  pub file : IsFile (view v).table f
-
-pub may_ask : (v : Volume) (f : ℕ) → first (spare_tests v f) ≡ 0 → MayAsk v f
-unfolding all
-may_ask v f e = record {
-  tabled = table_formed v (not-false _ (first_none (spare_tests v f) 0 refl e));
-  file = file_of (view v).table f (not-false _ (first_none (spare_tests v f) 1 refl e));
-}
-
 pub spare_answered : (v : Volume) (f : ℕ) → first (spare_tests v f) ≡ 0 → spare v f ≡ counted (spare_in (header_of v f))
 unfolding spare
 spare_answered v f e = rw e

@@ -6,10 +6,8 @@ mod step;
 
 use crate::step::{State, step};
 use interface::Session;
+use script::Script;
 use std::io;
-
-// The longest script.
-const LONGEST: usize = 65536;
 
 // Runs the lines one after the other, up to the first one that isn't understood. A line ends with 0A: what stands behind the last
 // 0A isn't understood either.
@@ -32,11 +30,12 @@ fn run(rt: &impl Print, script: &[u8], buffer: &mut [u8]) -> io::Result<()> {
 }
 
 fn main(rt: HostRuntime) -> io::Result<()> {
-    let mut input = [0u8; 65537];
+    // One byte more than the longest script.
+    let mut input = [0u8; Script::LONGEST + 1];
     let n = console::read_full(&rt, &mut input)?;
-    if LONGEST < n {
+    if Script::LONGEST < n {
         return println!(&rt; "too long");
     }
-    let mut buffer = [0u8; 262400];
+    let mut buffer = [0u8; Script::VOLUME];
     run(&rt, &input[..n], &mut buffer)
 }

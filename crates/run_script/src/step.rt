@@ -7,7 +7,8 @@ use script::fields::argument;
 use script::kinds::kind;
 use std::io;
 
-// The volume is the first `length` bytes of the buffer.
+// The volume is the first `length` bytes of the buffer. The length is beside the buffer, since a later `format` line may make the
+// volume longer: the memory for all volumes is one buffer.
 #[derive(Clone, Copy, Debug, PartialEq, Eq)]
 pub struct State {
     pub length: usize,
@@ -30,19 +31,16 @@ fn run_call(
     Ok(p.session)
 }
 
-// `dump S`: whether there is such a sector.
-fn dump(rt: &impl Print, v: &[u8], line: &[u8]) -> io::Result<bool> {
-    let Some(sector) = inspect::dump(v, line) else {
-        return Ok(false);
-    };
-    put_hex(rt, sector)?;
-    Ok(true)
+// `dump S`, if there is such a sector.
+fn dump(rt: &impl Print, v: &[u8], line: &[u8]) -> io::Result<Option<()>> {
+    inspect::dump(v, line)
+        .map(|sector| put_hex(rt, sector))
+        .transpose()
 }
 
 // `format LENGTH T P R P R ..`
 fn format(rt: &impl Print, buffer: &mut [u8], line: &[u8]) -> io::Result<State> {
-    // `as`, since there is no `From` of these types.
-    let length = buffer.len().min(argument(line, 1) as usize);
+    let length = buffer.len().min(argument(line, 1));
     put_format(rt, lines::format(&mut buffer[..length], line))?;
     Ok(State {
         length,
@@ -75,7 +73,7 @@ fn run_line(
             Some(s)
         }
         Kind::Poke => inspect::poke(v, line).then_some(s),
-        Kind::Dump => dump(rt, v, line)?.then_some(s),
+        Kind::Dump => dump(rt, v, line)?.map(|()| s),
         Kind::List => {
             put_list(rt, v)?;
             Some(s)

@@ -5,7 +5,7 @@ ghost use Rattle.script.specs.Fields;
 
 const SPACE: u8 = b' ';
 // The value of a field that is no number, and of any number that is larger.
-const TOO_LARGE: u32 = 1000000;
+const TOO_LARGE: usize = 1000000;
 
 // The number of arguments: one after each space.
 pub fn arguments(line: &[u8]) -> usize
@@ -36,15 +36,15 @@ fn field(line: &[u8], n: usize) -> &[u8]
 }
 
 // The number n with one more digit.
-fn with_digit(n: u32, c: u8) -> u32
+fn with_digit(n: usize, c: u8) -> usize
     requires { (n ≤ 1000000) × (48 ≤ c) × (c ≤ 57) }
     ensures { (result ≡ min (10 * n + (c - 48)) 1000000) × (result ≤ 1000000) }
 {
-    (10 * n + u32::from(c - b'0')).min(TOO_LARGE)
+    (10 * n + usize::from(c - b'0')).min(TOO_LARGE)
 }
 
 // The number at the front, up to the next space. `parse` isn't used, since it takes a sign too.
-fn digits(rest: &[u8]) -> u32
+fn digits(rest: &[u8]) -> usize
     ensures { result ≡ digits_from 0 rest.now }
 {
     let mut n = 0;
@@ -61,6 +61,7 @@ fn digits(rest: &[u8]) -> u32
 }
 
 // The byte at the front; behind the end of a line it is a space.
+// It is no `Option`: a missing field and an empty one are refused alike.
 fn front(rest: &[u8]) -> u8
     ensures { result ≡ front rest.now }
 {
@@ -69,7 +70,7 @@ fn front(rest: &[u8]) -> u8
 
 // Argument n, counted from 1. It is no `Option`: a field that is no number and a number that is too large are refused by one
 // test, against a limit. Ruled out: `12a` taken for 12 (`must-fail/half_a_number`); a missing argument taken for 0.
-pub fn argument(line: &[u8], n: usize) -> u32
+pub fn argument(line: &[u8], n: usize) -> usize
     ensures { result ≡ Fields.argument n line.now }
 {
     let rest = field(line, n);

@@ -4,32 +4,37 @@ ghost use Rattle.script.specs.Kinds.{arguments_fit, kind_of};
 ghost use Rattle.script.specs.Kinds;
 
 use crate::fields::{argument, arguments, has_word};
-use crate::{Action, Kind, Row};
+use crate::{Action, Kind, Row, Script};
+use interface::{ClientNumber, FileNumber};
+use sector::Limits;
 
-// The most that an argument may be: any byte, a volume's length, an address and a sector in the longest volume, the length of a
-// write's data, and a session's marks, clients and files.
-const B: u32 = 255;
+// The most that an argument may be: any byte, a volume's length, an address and a sector in the array for a volume, the length of a
+// write's data, and a session's marks, clients and files. `as`, since a constant's value can't call `from`.
+const B: usize = u8::MAX as usize;
 
-const LENGTH: u32 = 262400;
+// The limits of a row whose arguments are all bytes.
+const BYTES: [usize; 5] = [B; 5];
 
-const ADDRESS: u32 = 262399;
+const LENGTH: usize = Script::VOLUME;
 
-const SECTOR: u32 = 1024;
+const ADDRESS: usize = LENGTH - 1;
 
-const DATA: u32 = 512;
+const SECTOR: usize = Limits::SECTORS;
 
-const SESSION: u32 = 15;
+const DATA: usize = Script::DATA;
 
-const CLIENT: u32 = 4;
+const SESSION: usize = (1 << ClientNumber::LAST) - 1;
 
-const FILE: u32 = 16;
+const CLIENT: usize = ClientNumber::LAST as usize;
+
+const FILE: usize = FileNumber::LAST as usize;
 
 const ROWS: [Row; 16] = [
     Row {
         kind: Kind::Format,
         word: *b"format    ",
         least: 2,
-        most: 66,
+        most: 2 + Script::SHAPE,
         limits: [LENGTH, B, B, B, B],
     },
     Row {
@@ -37,21 +42,21 @@ const ROWS: [Row; 16] = [
         word: *b"begin     ",
         least: 1,
         most: 2,
-        limits: [B; 5],
+        limits: BYTES,
     },
     Row {
         kind: Kind::Call(Action::Open),
         word: *b"open      ",
         least: 2,
         most: 3,
-        limits: [B; 5],
+        limits: BYTES,
     },
     Row {
         kind: Kind::Call(Action::OpenRead),
         word: *b"open_read ",
         least: 2,
         most: 3,
-        limits: [B; 5],
+        limits: BYTES,
     },
     Row {
         kind: Kind::Call(Action::Write),
@@ -65,35 +70,35 @@ const ROWS: [Row; 16] = [
         word: *b"commit    ",
         least: 1,
         most: 2,
-        limits: [B; 5],
+        limits: BYTES,
     },
     Row {
         kind: Kind::Call(Action::Abort),
         word: *b"abort     ",
         least: 1,
         most: 2,
-        limits: [B; 5],
+        limits: BYTES,
     },
     Row {
         kind: Kind::Call(Action::Read),
         word: *b"read      ",
         least: 3,
         most: 3,
-        limits: [B; 5],
+        limits: BYTES,
     },
     Row {
         kind: Kind::Call(Action::Look),
         word: *b"look      ",
         least: 2,
         most: 2,
-        limits: [B; 5],
+        limits: BYTES,
     },
     Row {
         kind: Kind::Spare,
         word: *b"spare     ",
         least: 1,
         most: 1,
-        limits: [B; 5],
+        limits: BYTES,
     },
     Row {
         kind: Kind::Session,
@@ -107,7 +112,7 @@ const ROWS: [Row; 16] = [
         word: *b"session   ",
         least: 0,
         most: 0,
-        limits: [B; 5],
+        limits: BYTES,
     },
     Row {
         kind: Kind::Reading,
@@ -135,18 +140,19 @@ const ROWS: [Row; 16] = [
         word: *b"list      ",
         least: 0,
         most: 0,
-        limits: [B; 5],
+        limits: BYTES,
     },
 ];
 
 // The most that the argument behind i others may be.
-fn limit(x: &Row, i: usize) -> u32
+fn limit(x: &Row, i: usize) -> usize
     ensures { result ≡ Kinds.limit x.now i }
 {
     x.limits.get(i).copied().unwrap_or(B)
 }
 
-// Whether the first n arguments are what they may be.
+// Whether the first n arguments are what they may be. By number: the arguments are in no slice, and those behind the fifth have no
+// limit in the row.
 fn arguments_fit(line: &[u8], x: &Row, n: usize) -> bool
     ensures { result ≡ arguments_fit x.now line.now n }
 {

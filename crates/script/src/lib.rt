@@ -5,6 +5,23 @@ pub mod fields;
 pub mod kinds;
 pub mod texts;
 
+use sector::{Limits, Sector};
+
+// What every script has in common. Its numbers stay associated constants, as `sector`'s.
+#[derive(Clone, Copy, Debug, PartialEq, Eq)]
+pub struct Script {}
+
+impl Script {
+    // The bytes of the longest one.
+    pub const LONGEST: usize = 65536;
+    // The bytes that it has for its volume: a sector more than the longest volume, so that format can refuse that.
+    pub const VOLUME: usize = Sector::SIZE * (Limits::SECTORS + 1);
+    // The most bytes of a write's data: more than a page, so that a write can refuse that.
+    pub const DATA: usize = 2 * Sector::SIZE;
+    // The most numbers of a format's list: more than two for each file, so that format can refuse that.
+    pub const SHAPE: usize = 64;
+}
+
 // Which call a command is.
 #[derive(Clone, Copy, Debug, PartialEq, Eq)]
 pub enum Action {
@@ -45,5 +62,5 @@ pub struct Row {
     pub word: [u8; 10],
     pub least: usize,
     pub most: usize,
-    pub limits: [u32; 5],
+    pub limits: [usize; 5],
 }

@@ -13,7 +13,8 @@ fn hex_digit(n: u8) -> u8
     if n < 10 { b'0' + n } else { b'A' - 10 + n }
 }
 
-// The digits of every byte are written to the front of `out`.
+// The digits of every byte are written to the front of `out`. By index: of `as_chunks_mut` the kit doesn't say what the slice
+// ends as.
 fn put_hex(bytes: &[u8], out: &mut [u8])
     requires { 2 * length bytes.now ≤ length out.old }
     ensures { out.new ≡ sets out.old 0 (hex_text bytes.now) }

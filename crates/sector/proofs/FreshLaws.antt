@@ -1,22 +1,22 @@
 -- The table and a header, built in a sector of zeros: the fixed bytes at the front by computation, then what is put behind
 -- them, an entry for each file or a slot for each page. A loop keeps that what is still to be put makes up the whole.
 use mathlib.Core.Path.{◌≡◌, refl, ap}
-use mathlib.Core.List.{[], ◌∷◌, ◌++◌}
+use mathlib.Core.List.{List, [], ◌∷◌, ◌++◌}
 use Prim.Native.Nat.{ℕ, suc, ◌+◌, ◌*◌, ◌-◌, ◌/◌, ◌%◌, ◌≤◌, ◌<◌}
 use native.Mathlib.Numerals.{add-one}
 use native.Mathlib.Omega.{arith}
-use lib.ListN.{length, drop, set}
+use lib.ListN.{length, set}
 use Rattle.lists.specs.Lists.{from}
-use Rattle.sector.specs.Layout.{mark_byte, table_mark, header_mark, items_offset, items_room, item_offset, spare_offset, file_limit}
+use Rattle.sector.specs.Layout.{mark_byte, table_mark, header_mark, items_offset, items_room, item_length, spare_offset, file_limit}
 use Rattle.sector.specs.Contents.{Bytes, File, new_header}
 use Rattle.sector.specs.Sectors.{word_bytes, zero_sector, padded}
 use Rattle.sector.specs.Encoding.{file_bytes, encode_table, encode_header}
 use Rattle.lists.proofs.SearchLaws.{from_length}
 use Rattle.sector.proofs.CodecLaws.{files_length}
-use Rattle.sector.specs.Shapes.{files_of, pair_at}
+use Rattle.sector.specs.Shapes.{files_of}
 use Rattle.sector.specs.Puts.{Puts}
 use Rattle.sector.proofs.PutsLaws.{puts_more, puts_byte}
-use Rattle.sector.proofs.ShapeLaws.{files_count, files_from_lem}
+use Rattle.sector.proofs.ShapeLaws.{files_count}
 
 -- ------------------------------------------------------------------ the table
 -- Four bytes.
@@ -27,13 +27,14 @@ entry_put at x y z w b =
     (puts_more (at + 1) (at + 2) (y ∷ []) (z ∷ w ∷ []) _ _ _ (omega arith) (puts_byte (at + 1) y _)
     (puts_more (at + 2) (at + 3) (z ∷ []) (w ∷ []) _ _ _ (omega arith) (puts_byte (at + 2) z _) (puts_byte (at + 3) w _)))
 
-pub entries_turn : (l : Bytes) (i h : ℕ) (b c : Bytes) → i < length l / 2
-    → Puts (item_offset i) (word_bytes h ((pair_at l i).pages ∷ (pair_at l i).slots ∷ [])) b c
-    → (w : Bytes) → Puts (item_offset (i + 1)) (file_bytes (h + 1 + (pair_at l i).slots) (drop (i + 1) (files_of l))) c w
-    → Puts (item_offset i) (file_bytes h (drop i (files_of l))) b w
+-- A file's entry, and then those of the files behind it.
+pub entries_turn : (x : File) (xs left : List File) (at h : ℕ) (b c w : Bytes) → left ≡ x ∷ xs
+    → Puts at (word_bytes h (x.pages ∷ x.slots ∷ [])) b c → Puts (at + item_length) (file_bytes (h + (1 + x.slots)) xs) c w
+    → Puts at (file_bytes h left) b w
 unfolding file_bytes
-entries_turn l i h b c lt one w rest =
-    rw (files_from_lem l i lt) (puts_more (item_offset i) (item_offset (i + 1)) _ _ b c w (omega arith) one rest)
+entries_turn x xs left at h b c w q one rest =
+    let next : h + (1 + x.slots) ≡ h + 1 + x.slots = omega arith in
+    rw q (puts_more at (at + 4) _ _ b c w refl one (rw next at rest))
 
 pub table_built : (N T F : ℕ) (l w : Bytes) → F ≡ length (files_of l) → length l ≤ 2 * file_limit
     → Puts items_offset (file_bytes (T + 1) (files_of l)) (set (set (set (set (set (set zero_sector 0 mark_byte) 1 table_mark) 2 (N % 256)) 3 (N / 256)) 4 T) 5 F) w

@@ -3,6 +3,7 @@ pub mod CodecLaws
 pub mod PartLaws
 pub mod EditLaws
 pub mod ShapeLaws
+pub mod WalkLaws
 pub mod PutsLaws
 pub mod FreshLaws
 pub mod EncodedLaws

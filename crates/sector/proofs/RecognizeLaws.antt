@@ -1,46 +1,49 @@
--- The loops that recognize a control sector. Each keeps that the result is decided by the bytes or items that are left; or-ing
--- byte after byte keeps whether all are zero.
+-- How a control sector is recognized: by the or of bytes, which is zero just where all are; and by two bytes as a number. The loop over
+-- files keeps that the result is decided by those that are left.
 use mathlib.Core.Path.{◌≡◌, sym, ap, ◌∙◌}
 use mathlib.Core.Bool.{Bool, true, false, ◌&&◌, and_assoc, and-true}
+use mathlib.Core.List.{[], ◌∷◌}
 use mathlib.Core.Logic.{◌≢◌}
-use Prim.Native.Nat.{ℕ, suc, ◌+◌, ◌*◌, ◌-◌, ◌/◌, ◌%◌, ◌<◌, ◌≤◌}
+use Prim.Native.Nat.{ℕ, zero, suc, ◌+◌, ◌*◌, ◌-◌, ◌/◌, ◌%◌, ◌<◌, ◌≤◌}
+use native.Mathlib.Nat.{le_of_suc-le-suc, not-suc-le-zero}
 use native.Mathlib.Omega.{arith}
 use borrow.Author.Tests.{eqb-true, eq-eqb, ne_eqb}
 use lib.Bits.{bit_or}
 use lib.Dec.{eqb}
-use lib.ListN.{length, get_or, drop, drop_of_length-le}
-use lib.Seq.{drop-drop, get_or-drop}
-use Rattle.sector.specs.Layout.{mark_byte, item_offset, slots_offset, zero_offset}
+use lib.ListN.{take, drop}
+use lib.Seq.{drop-drop, get_or-take, get_or-drop}
+use Rattle.std.specs.List.{fold}
+use Rattle.std.specs.Simd.{first_chunks}
+use Rattle.sector.specs.Layout.{mark_byte, item_length, item_offset, slots_offset, zero_offset}
 use Rattle.sector.specs.Contents.{Bytes}
 use Rattle.sector.specs.Sectors.{byte, word}
 use Rattle.sector.specs.Encoded.{all_zero, has_mark, headers_follow, entries_closed}
 use Rattle.lists.proofs.ListLaws.{and_left, and_right, and_both}
-use Rattle.lists.proofs.TestLaws.{iff, or_zero, drop_next}
+use Rattle.lists.proofs.TestLaws.{iff, or_zero}
 
--- ------------------------------------------------------------------ zero bytes: `bits` is the or of those before i
-module _ (l : Bytes) (w : Bool) (bits i : ℕ) (q : w ≡ (eqb bits 0 && all_zero (drop i l))) where
-  pub zero_more : i < length l → w ≡ (eqb (bit_or bits (get_or l i 0)) 0 && all_zero (drop (i + 1) l))
-  unfolding all_zero
-  zero_more h = q ∙ rw (drop_next l i 0 h, or_zero bits (get_or l i 0)) (sym (and_assoc (eqb bits 0) _ _))
+-- ------------------------------------------------------------------ zero bytes: the or of all is zero just where all are
+or_all : (bits : ℕ) (l : Bytes) → eqb (fold bit_or bits l) 0 ≡ (eqb bits 0 && all_zero l)
+unfolding all_zero
+or_all bits [] = sym (and-true (eqb bits 0))
+or_all bits (x ∷ l) = or_all (bit_or bits x) l ∙ rw (or_zero bits x) (and_assoc (eqb bits 0) _ _)
 
-  pub zero_done : length l ≤ i → w ≡ eqb bits 0
-  unfolding all_zero
-  zero_done h = q ∙ rw (drop_of_length-le l {i = i} h) (and-true (eqb bits 0))
+pub zero_or : (l : Bytes) (n : ℕ) → n ≡ fold bit_or 0 l → eqb n 0 ≡ all_zero l
+zero_or l n e = rw e (or_all 0 l)
 
 -- ------------------------------------------------------------------ the last bytes of entries, likewise
-module _ (d : Bytes) (w : Bool) (n bits i : ℕ) (q : w ≡ (eqb bits 0 && entries_closed (n - i) (drop (item_offset i) d))) where
-  pub closed_more : i < n
-      → w ≡ (eqb (bit_or bits (byte d (item_offset i + zero_offset))) 0 && entries_closed (n - (i + 1)) (drop (item_offset (i + 1)) d))
-  unfolding entries_closed
-  closed_more h =
-      let m : n - i ≡ suc (n - (i + 1)) = omega arith in
-      let e : item_offset i + 4 ≡ item_offset (i + 1) = omega arith in
-      let b : ℕ = byte d (item_offset i + 3) in
-      q ∙ rw (m, get_or-drop (item_offset i) d 3 0, drop-drop 4 (item_offset i) d, e, or_zero bits b) (sym (and_assoc (eqb bits 0) _ _))
+abbrev pub or_last : ℕ → Bytes → ℕ
+or_last bits e = bit_or bits (byte e zero_offset)
 
-  pub closed_done : n ≤ i → w ≡ eqb bits 0
-  unfolding entries_closed
-  closed_done h = let m : n - i ≡ 0 = omega arith in q ∙ rw m (and-true (eqb bits 0))
+or_lasts : (bits n k : ℕ) (l : Bytes) → n ≤ k → eqb (fold or_last bits (take n (first_chunks item_length k l))) 0 ≡ (eqb bits 0 && entries_closed n l)
+unfolding entries_closed
+or_lasts bits zero k l h = sym (and-true (eqb bits 0))
+or_lasts bits (suc n) zero l h = absurd (not-suc-le-zero h)
+or_lasts bits (suc n) (suc k) l h =
+    or_lasts (or_last bits (take 4 l)) n k (drop 4 l) (le_of_suc-le-suc h)
+    ∙ rw (get_or-take 4 l 3 0 (omega arith), or_zero bits (byte l 3)) (and_assoc (eqb bits 0) _ _)
+
+pub closed_or : (n k : ℕ) (l : Bytes) (m : ℕ) → n ≤ k → m ≡ fold or_last 0 (take n (first_chunks item_length k l)) → eqb m 0 ≡ entries_closed n l
+closed_or n k l m h e = rw e (or_lasts 0 n k l h)
 
 -- ------------------------------------------------------------------ two bytes as a number: marks, and the headers' sectors
 -- Two bytes are those of h if their number is h.

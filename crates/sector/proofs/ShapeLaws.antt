@@ -1,10 +1,10 @@
 -- The files of a list of pairs, one after the other: their number, and those from index i on. Each by the pairs of the list.
 use mathlib.Core.Path.{◌≡◌, refl}
 use mathlib.Core.List.{[], ◌∷◌}
-use Prim.Native.Nat.{ℕ, zero, suc, ◌+◌, ◌*◌, ◌/◌, ◌≤◌, ◌<◌}
+use Prim.Native.Nat.{ℕ, zero, suc, ◌+◌, ◌*◌, ◌/◌, ◌<◌}
 use native.Mathlib.Nat.{not-suc-le-zero}
 use native.Mathlib.Omega.{arith}
-use lib.ListN.{length, drop, drop_of_length-le}
+use lib.ListN.{length, drop}
 use Rattle.sector.specs.Contents.{Bytes}
 use Rattle.sector.specs.Shapes.{files_of, pair_at}
 
@@ -24,6 +24,3 @@ files_from_lem (p ∷ r ∷ l) (suc i) h =
     let e1 : suc (suc (2 * i)) + 1 ≡ suc (suc (2 * i + 1)) = omega arith in
     let e2 : suc i + 1 ≡ suc (i + 1) = omega arith in
     rw (e, e1, e2) (files_from_lem l i (omega arith))
-
-pub files_end : (l : Bytes) (i : ℕ) → length l / 2 ≤ i → drop i (files_of l) ≡ []
-files_end l i h = drop_of_length-le (files_of l) {i = i} (rw (files_count l) h)

@@ -1,5 +1,7 @@
-// The numbers of `specs/Layout`: where each byte of a control sector lies, and the limits.
-// They stay associated constants, a form that the project asks for.
+// The numbers of `specs/Layout`: where each byte of a control sector lies, and the limits; and what a sector holds.
+// The numbers stay associated constants, a form that the project asks for.
+ghost use Rattle.std.specs.Prelude.{◌≡◌, ◌+◌, ◌*◌, ◌≤◌, length};
+ghost use Rattle.sector.specs.Layout.{file_limit};
 
 // What every sector has in common.
 #[derive(Clone, Copy, Debug, PartialEq, Eq)]
@@ -85,10 +87,21 @@ impl Limits {
 }
 
 // A file of the table: its pages and its slots.
+// That a file is in range isn't in the type: the table's test reads files that aren't.
 #[derive(Clone, Copy, Debug, PartialEq, Eq)]
 pub struct File {
     pub pages: u8,
     pub slots: u8,
+}
+
+impl File {
+    // The sectors that it takes: its header and its slots. Ruled out: the slots alone (`must-fail/slots_without_header`); a
+    // sector for each page too.
+    pub fn sectors(self) -> usize
+        ensures { result ≡ 1 + self.slots }
+    {
+        1 + usize::from(self.slots)
+    }
 }
 
 // An entry of an intentions record: page `page` of file `file` is in its slot `slot`.
@@ -97,4 +110,18 @@ pub struct Entry {
     pub file: u8,
     pub page: u8,
     pub slot: u8,
+}
+
+// A walk over the entries of a record: their bytes, from the next one on. Clone and Copy alone, here and below: nobody compares two
+// walks or prints one.
+#[derive(Clone, Copy)]
+pub struct Entries<'a> {
+    pub items: &'a [u8],
+}
+
+// A walk over a list of at most 16 files, given as pairs of bytes: pages, slots.
+#[derive(Clone, Copy)]
+pub struct Files<'a> {
+    pub pairs: &'a [u8],
+    ghost short: { length pairs.now ≤ 2 * file_limit },
 }

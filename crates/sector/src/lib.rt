@@ -7,13 +7,14 @@ mod fresh;
 pub mod layout;
 mod read;
 mod recognize;
+mod walk;
 mod write;
 
-pub use build::{append_entry, load, redo_map, set_holder, set_map_slot, set_state, zeros};
+pub use build::{append_entry, redo_map, set_holder, set_map_slot, set_state, zeros};
 pub use fresh::{empty_record, new_header, new_table};
-pub use layout::{Entry, File, Limits, Sector, State};
+pub use layout::{Entries, Entry, File, Files, Limits, Sector, State};
 pub use read::{
-    entry, file, file_header, header_holder, header_spare, map_slot, part, record_count,
+    file, file_header, header_holder, header_spare, map, map_slot, part, record_count,
     record_state, table_clients, table_files, table_sectors,
 };
 pub use recognize::{has_header_mark, has_table_frame, is_header, is_record};

@@ -1,12 +1,15 @@
-// Readers of a sector, and of the fields of a control sector by position. Each takes the 256 bytes of the sector.
-ghost use Rattle.std.specs.Prelude.{◌≡◌, ◌+◌, ◌*◌, ◌≤◌, ◌<◌, ◌%◌, length};
-ghost use Rattle.sector.specs.Layout.{items_room, entry_limit};
+// `part` is a sector of the volume. The others read the fields of a control sector by position, from its 256 bytes.
+// The readers of one byte stay a function each: a place as const parameter would show callers the position.
+ghost use Rattle.std.specs.Prelude.{◌≡◌, ◌+◌, ◌*◌, ◌≤◌, ◌<◌, length, take, drop};
+ghost use Rattle.sector.specs.Layout.{items_offset, items_room, entry_limit};
 ghost use Rattle.sector.specs.Sectors.{sector, byte, word};
-ghost use Rattle.sector.specs.Decoding.{sectors_in, clients_in, file_count_in, header_sector_in, file_in, state_in, count_in, entry_in, holder_in, spare_in, map_in};
+ghost use Rattle.sector.specs.Decoding.{sectors_in, clients_in, file_count_in, header_sector_in, file_in, state_in, count_in, holder_in, spare_in, map_in};
 
-use crate::layout::{Entry, File, Offset, Sector};
+use crate::layout::{File, Offset, Sector};
 
 // Sector s of the volume.
+// That the sector lies in the array is a clause here and wherever one is stored: a type for it would have to know its array, and
+// the array is lent for storing.
 pub fn part(v: &[u8], s: usize) -> &[u8; Sector::SIZE]
     requires { (256 * s + 256 ≤ length v.now) × (s ≤ 65536) }
     ensures { result.now ≡ sector v.now s }
@@ -53,7 +56,7 @@ pub fn file_header(d: &[u8; Sector::SIZE], i: usize) -> usize
     word_at(d, Offset::ITEMS + Offset::ITEM * i)
 }
 
-// Its pages and slots.
+// Its pages and slots. Ruled out: the slots taken for the pages too (`must-fail/slots_as_pages`); those of the file before it.
 pub fn file(d: &[u8; Sector::SIZE], i: usize) -> File
     requires { i < entry_limit }
     ensures { result ≡ file_in d.now i }
@@ -79,19 +82,6 @@ pub fn record_count(d: &[u8; Sector::SIZE]) -> u8
     d[Offset::COUNT]
 }
 
-// The entry with index i, which counts from 0.
-pub fn entry(d: &[u8; Sector::SIZE], i: usize) -> Entry
-    requires { i < entry_limit }
-    ensures { result ≡ entry_in d.now i }
-{
-    let at = Offset::ITEMS + Offset::ITEM * i;
-    Entry {
-        file: d[at],
-        page: d[at + Offset::PAGE],
-        slot: d[at + Offset::SLOT],
-    }
-}
-
 // A file header's holder.
 pub fn header_holder(d: &[u8; Sector::SIZE]) -> u8
     ensures { result ≡ holder_in d.now }
@@ -112,4 +102,13 @@ pub fn map_slot(d: &[u8; Sector::SIZE], p: usize) -> u8
     ensures { result ≡ map_in d.now p }
 {
     d[Offset::ITEMS + p]
+}
+
+// The slots of its first n pages. Ruled out: the last page left out (`must-fail/map_without_last_page`); the
+// bytes from the fields on.
+pub fn map(d: &[u8; Sector::SIZE], n: u8) -> &[u8]
+    requires { n ≤ items_room }
+    ensures { result.now ≡ take n (drop items_offset d.now) }
+{
+    &d[Offset::ITEMS..Offset::ITEMS + usize::from(n)]
 }

@@ -1,22 +1,20 @@
 // The marks of a session: which clients have a transaction running.
-ghost use Rattle.std.specs.Prelude.{◌≡◌, ◌≤◌};
+ghost use Rattle.std.specs.Prelude.{◌≡◌};
 ghost use Rattle.rules.specs.Sessions.{is_active, set_active};
 
-use interface::Session;
+use interface::{ClientNumber, Session};
 
 // Whether client k has a transaction running.
-pub fn is_active(s: Session, k: u8) -> bool
-    requires { (1 ≤ k) × (k ≤ 4) }
-    ensures { result ≡ is_active s k }
+pub fn is_active(s: Session, k: ClientNumber) -> bool
+    ensures { result ≡ is_active s k.number }
 {
-    s.active[usize::from(k) - 1]
+    s.active[k.index()]
 }
 
 // The session with client k marked, or not.
-pub fn set_active(mut s: Session, k: u8, on: bool) -> Session
-    requires { (1 ≤ k) × (k ≤ 4) }
-    ensures { result ≡ set_active s k on }
+pub fn set_active(mut s: Session, k: ClientNumber, on: bool) -> Session
+    ensures { result ≡ set_active s k.number on }
 {
-    s.active[usize::from(k) - 1] = on;
+    s.active[k.index()] = on;
     s
 }

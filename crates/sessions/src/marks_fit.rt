@@ -2,23 +2,22 @@
 ghost use Rattle.std.specs.Prelude.{◌≡◌, not, ◌||◌, ◌≤◌};
 ghost use Rattle.lists.specs.Lists.{every};
 ghost use Rattle.sector.specs.Contents.{Table, Entry, Record};
-ghost use Rattle.volume.specs.Places.{IsClient};
 ghost use Rattle.volume.specs.Views.{View};
 ghost use Rattle.volume.specs.Volumes.{view};
 ghost use Rattle.rules.specs.Sessions.{is_active, holds, mark_fits, marks_fit};
 
 use crate::marks::is_active;
-use interface::Session;
+use interface::{ClientNumber, Session};
 use sector::State;
-use volume::FormedVolume;
+use volume::{FormedVolume, VolumeClient};
 
-// Whether client k holds the file of every entry of its record.
-fn entries_held(v: FormedVolume<'_>, k: u8) -> bool
-    requires { IsClient (view v.bytes.now).table k }
-    ensures { result ≡ every (λ e. holds (view v.entry.bytes.now) k e.file) ((view v.entry.bytes.now).records k).entries }
+// Whether the client holds the file of every entry of its record.
+// A loop, since its invariant says that the entries left name files that exist; a closure knows nothing of the entry it is given.
+fn entries_held(c: VolumeClient<'_>) -> bool
+    ensures { result ≡ every (λ e. holds (view c.entry.volume.bytes.now) c.entry.number e.file) ((view c.entry.volume.bytes.now).records c.entry.number).entries }
 {
-    for i in 0..usize::from(v.entry_count(k)) {
-        if v.holder(v.entry(k, i).file) != k {
+    for e in c.entries() {
+        if c.volume.tabled().file(e.file).holder() != c.number {
             return false;
         }
     }
@@ -26,23 +25,32 @@ fn entries_held(v: FormedVolume<'_>, k: u8) -> bool
 }
 
 // Whether client k may be marked: it exists, its record is open, and it holds the files of its entries.
-fn mark_fits(v: FormedVolume<'_>, k: u8) -> bool
-    requires { (1 ≤ k) }
-    ensures { result ≡ mark_fits (view v.entry.bytes.now) k }
+fn mark_fits(v: FormedVolume<'_>, k: ClientNumber) -> bool
+    ensures { result ≡ mark_fits (view v.entry.bytes.now) k.number }
 {
-    if v.clients() < k {
+    let Some(c) = v.find_client(k.number) else {
+        return false;
+    };
+    if c.state() != State::OPEN {
         return false;
     }
-    if v.state(k) != State::OPEN {
-        return false;
-    }
-    entries_held(v, k)
+    entries_held(c)
 }
+
+// The closure's clause is the range, here and in the tests of holds: a walk over numbers that know it would be a type with laws, for
+// four uses.
 
 // Whether every marked client may be marked. Ruled out: a mark above the last client accepted (`must-fail/skips_client_4`); a
 // test of the records' states alone (`rules/must-fail/stray_entry_accepted`).
 pub fn marks_fit(v: FormedVolume<'_>, s: Session) -> bool
     ensures { result ≡ marks_fit (view v.entry.bytes.now) s }
 {
-    (1..5).all(|k| !is_active(s, k) || mark_fits(v, k))
+    (1..=ClientNumber::LAST).all(
+        |k|
+            requires { (1 ≤ k) × (k ≤ 4) }
+        {
+            let k = ClientNumber { number: k };
+            !is_active(s, k) || mark_fits(v, k)
+        },
+    )
 }

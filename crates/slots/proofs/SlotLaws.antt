@@ -1,16 +1,17 @@
 -- Searches for a slot: of an entry, and of a free one. Where the lowest number that a search in the set finds is r, the first of
 -- all those that it doesn't pass over is r; a search from the start on and one from 0 on find the first of the slots tried.
 use mathlib.Core.Path.{◌≡◌, refl, sym, ap, ◌∙◌}
-use mathlib.Core.Bool.{Bool, true, false, not, ◌&&◌, ◌||◌, and-false, or-false}
-use mathlib.Core.List.{List, [], ◌++◌}
+use mathlib.Core.Bool.{Bool, true, false, cond, not, ◌&&◌, ◌||◌, and-false, or-false}
+use mathlib.Core.List.{List, [], ◌∷◌, ◌++◌}
 use mathlib.Core.Option.{Option, none, some}
 use Prim.Native.Nat.{ℕ, ◌/◌, ◌<◌, ◌≤◌, zero-le}
 use native.Mathlib.Omega.{arith}
 use borrow.Author.Tests.{ltb-true, ltb-false, le-ltb, le-leb, lt-leb}
 use lib.Dec.{eqb, leb, ltb}
 use lib.ListN.{get_elem?, length}
-use Rattle.std.proofs.Math.ListN.{length-set}
-use Rattle.lists.specs.Lists.{any, filter, member, from}
+use Rattle.std.specs.List.{find as code_find}
+use Rattle.std.specs.Option.{option_map}
+use Rattle.lists.specs.Lists.{when◌then◌else◌, any, filter, find, member, from}
 use Rattle.sector.specs.Contents.{Entry}
 use Rattle.sector.specs.Entries.{gives_slot}
 use Rattle.lists.proofs.ListLaws.{or_right}
@@ -42,14 +43,21 @@ unfolding entry_slot
 entry_at none r e = none_some r (sym e)
 entry_at (some x) r e = record { entry = x; found = refl; slot = cc }
 
+-- The kit's search finds the entry that the definitions' finds.
+pub slot_found : (t : Entry → Bool) (es : List Entry) → slot_of (option_map (λ e. e.slot) (code_find t es)) ≡ entry_slot (find t es)
+unfolding entry_slot
+slot_found t [] = refl
+slot_found t (e ∷ es) = go (t e) (slot_found t es)
+  where
+    go : (b : Bool) → slot_of (option_map (λ e. e.slot) (code_find t es)) ≡ entry_slot (find t es)
+        → slot_of (option_map (λ e. e.slot) (cond b (Some e) (code_find t es))) ≡ entry_slot (when b then some e else find t es)
+    go true h = refl
+    go false h = h
+
 -- ------------------------------------------------------------------ the slots taken
 -- A slot more, in a set that holds any byte.
 pub one_more : (s t : List ℕ) (x : ℕ) → length s ≡ 4 → x < 256 → t ≡ with_byte s x → (y : ℕ) → has_byte t y ≡ (eqb y x || has_byte s y)
 one_more s t x l b e y = let room : x / 64 < length s = omega arith in rw e (has_with s x y room)
-
-pub one_more_length : (s t : List ℕ) (x : ℕ) → length s ≡ 4 → t ≡ with_byte s x → length t ≡ 4
-unfolding with_byte
-one_more_length s t x l e = rw e (simp length-set l)
 
 -- ------------------------------------------------------------------ the free slots
 -- A slot from `start` on that is not in the set is one that the search doesn't pass over.

@@ -7,6 +7,7 @@ use std::io;
 
 // The array is advanced from volume to volume, and each is written.
 fn write_volumes(rt: &impl Print, v: &mut [u8]) -> io::Result<()> {
+    // No iterator: what it hands out would be the array that it changes next.
     let mut at = 0;
     while let Ok(Some(n)) = enumeration::advance(v, at) {
         console::write(rt, v)?;

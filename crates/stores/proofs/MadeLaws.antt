@@ -56,6 +56,13 @@ module _ {v : Volume} (r : Run) {x : Update} where
   put_short {q} i e = let p = err_from_is_err_and q i in rw (p.1, p.2) (record { stores = sym (run_one r v _ [] (sym e)) })
 
 -- ------------------------------------------------------------------ one after the other
+-- A run that goes on finds the same table; after a crash nothing is made, whatever table there is.
+same_made : (v w : Volume) (q : Result Run Crashed) → OnOk q ((view w).table ≡ (view v).table) → (ys : List Update)
+    → stores_made w q (all_stores (view w).table ys) ≡ stores_made w q (all_stores (view v).table ys)
+unfolding stores_made
+same_made v w (Ok r) same ys = rw same
+same_made v w (Err c) same ys = refl
+
 module _ {v w : Volume} {r q : Result Run Crashed} {xs : List Update} (m : UpdatesMade v r xs w q) where
   first : (ys : List Update) → stores_made v r (all_stores (view v).table (xs ++ ys)) ≡ stores_made w q (all_stores (view v).table ys)
   first ys =
@@ -63,9 +70,9 @@ module _ {v w : Volume} {r q : Result Run Crashed} {xs : List Update} (m : Updat
       ap (stores_made v r) (stores_append t xs ys) ∙ run_append (all_stores t xs) (all_stores t ys) v r
       ∙ ap (λ (p : Volume × Result Run Crashed). stores_made p.0 p.1 (all_stores t ys)) (sym m.stores)
 
-  pub made_more : {u : Volume} {z : Result Run Crashed} {ys : List Update} → (view w).table ≡ (view v).table
+  pub made_more : {u : Volume} {z : Result Run Crashed} {ys : List Update} → OnOk q ((view w).table ≡ (view v).table)
       → UpdatesMade w q ys u z → UpdatesMade v r (xs ++ ys) u z
-  made_more {ys = ys} same n = record { stores = rw same at n.stores ∙ sym (first ys) }
+  made_more {ys = ys} same n = record { stores = n.stores ∙ same_made v w q same ys ∙ sym (first ys) }
 
 -- A crash that goes up by `?`: what was to come isn't made.
 pub made_cut : {v w : Volume} {r q : Result Run Crashed} {c : Crashed} {xs : List Update} (ys : List Update)

@@ -25,10 +25,6 @@ crash made = Err (record { made = made })
 counts : map counted (new_run 2 ∷ run 2 1 ∷ run 2 2 ∷ new_run 0 ∷ []) ≡ going 2 1 ∷ going 2 2 ∷ crash 2 ∷ crash 0 ∷ []
 counts = refl
 
--- So a run goes on with stores left, and with the last one, but not with none.
-goes_on_lem : map (λ r. is_ok (counted r)) (new_run 2 ∷ run 2 1 ∷ run 2 2 ∷ new_run 0 ∷ []) ≡ true ∷ true ∷ false ∷ false ∷ []
-goes_on_lem = refl
-
 -- Two stores: sector 0 gets ones, sector 1 twos.
 abbrev page : ℕ → Volume
 page n = replicate 256 n
@@ -38,6 +34,12 @@ both = record { target = 0; bytes = page 1 } ∷ record { target = 1; bytes = pa
 
 abbrev after : Result Run Crashed → Volume × Result Run Crashed
 after r = stores_made (page 0 ++ page 0) r both
+
+-- A run goes on with stores left, and with the last one, but not with none, and not after a crash.
+goes_on_lem : map (λ r. is_ok (stores_made (page 0) r (record { target = 0; bytes = page 1 } ∷ [])).1)
+    (Ok (new_run 2) ∷ going 2 1 ∷ going 2 2 ∷ Ok (new_run 0) ∷ crash 1 ∷ []) ≡ true ∷ true ∷ false ∷ false ∷ false ∷ []
+unfolding stores_made store_at
+goes_on_lem = refl
 
 -- By a budget for both, for the first alone, for none, and by a run that has crashed.
 made : map after (Ok (new_run 2) ∷ Ok (new_run 1) ∷ Ok (new_run 0) ∷ crash 1 ∷ [])

@@ -57,9 +57,12 @@ impl Run {
     }
 }
 
-// What stores is lent the bytes, and asks for `WellFormed` in a clause: what a store leaves is well formed only where the bytes stored
-// are a record or a header that fits, which isn't asked here; so no type that lends the volume for storing can promise it.
-// Three puts, and not one over a closure that stores, which is no plainer: its contract would be the three updates again.
+// What stores is lent the bytes, and asks for `WellFormed` in a clause. A type that lends a well-formed volume for storing was tried: each
+// put would have to ask that its bytes fit, which is more than now, and each function to say that the reference stays the same. So the
+// client and the file are numbers too, with a clause that they exist: they are of the same volume as it is stored to.
+// Three puts, and not one over a closure that stores, which is no plainer: its contract would be the three updates again. One put of a
+// place was tried too: it is proved, and no plainer. Its contract is about every update of that place with these bytes, where each of the
+// three names its update; it takes a second type of places, as the definition's has the table too, and laws that tell the updates apart.
 
 // Client k's record becomes the one that src encodes.
 pub fn put_record(v: &mut [u8], k: u8, src: &[u8; 256], run: Run) -> Result<Run, Crashed>

@@ -4,10 +4,10 @@ use mathlib.Core.Path.{◌≡◌}
 use mathlib.Core.List.{[], ◌∷◌}
 use Prim.Native.Nat.{ℕ, ◌+◌, ◌-◌, ◌≤◌, ◌<◌}
 use native.Mathlib.Omega.{arith}
-use lib.ListN.{length, drop}
-use Rattle.sector.specs.Contents.{Bytes, File}
-use Rattle.sector.specs.Decoding.{file_count_in, file_in, count_in, map_in, decode_table, decode_record, decode_header}
-use Rattle.sector.proofs.CodecLaws.{decoded_files, decoded_file, decoded_count, decoded_map, decoded_slot}
+use lib.ListN.{drop}
+use Rattle.sector.specs.Contents.{Bytes}
+use Rattle.sector.specs.Decoding.{file_count_in, file_in, count_in, decode_table, decode_record}
+use Rattle.sector.proofs.CodecLaws.{decoded_files, decoded_file, decoded_count}
 use Rattle.lists.proofs.TestLaws.{next_of, none_of}
 use Rattle.volume.specs.Places.{no_file, file_at}
 
@@ -23,10 +23,3 @@ module _ (d : Bytes) where
 
   pub no_entry_lem : (i : ℕ) → count_in d ≤ i → drop i (decode_record d).entries ≡ []
   no_entry_lem i h = none_of (decode_record d).entries (count_in d) i (decoded_count d) h
-
-module _ (x : File) (d : Bytes) (len : length d ≡ 256) (few : x.pages ≤ 120) where
-  pub next_slot : (p : ℕ) → p < x.pages → drop p (decode_header x d).map ≡ map_in d p ∷ drop (p + 1) (decode_header x d).map
-  next_slot p h = next_of (decode_header x d).map x.pages p 0 (map_in d p) (decoded_map x d len (omega arith)) h (decoded_slot x d p h)
-
-  pub no_slot : (p : ℕ) → x.pages ≤ p → drop p (decode_header x d).map ≡ []
-  no_slot p h = none_of (decode_header x d).map x.pages p (decoded_map x d len (omega arith)) h

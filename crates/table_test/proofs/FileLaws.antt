@@ -1,7 +1,6 @@
 -- The walk over the table's files, as `files_are_sound` makes it: what is left of them decides whether all are sound, and where they
 -- end.
-use native.Mathlib.Omega.{arith}
-use mathlib.Core.Path.{◌≡◌, ◌∙◌, refl}
+use mathlib.Core.Path.{◌≡◌, ◌∙◌}
 use mathlib.Core.Bool.{true, false}
 use mathlib.Core.List.{List}
 use mathlib.Core.Logic.{◌≢◌}
@@ -29,9 +28,6 @@ pub record FilesLeft (d : Bytes) (first h i : ℕ) : Type 0 where
   pub headers : headers_in first d ≡ headers_follow (file_count_in d - i) h (drop (item_offset i) d)
   pub fits : every file_fits (files d) ≡ every file_fits (drop i (files d))
   pub ends : sector_after first (files d) ≡ sector_after h (drop i (files d))
-
-pub files_all : (d : Bytes) (first : ℕ) → FilesLeft d first first 0
-files_all d first = let z : file_count_in d - 0 ≡ file_count_in d = omega arith in record { headers = rw z; fits = refl; ends = refl }
 
 module _ {d : Bytes} {first h i : ℕ} (left : FilesLeft d first h i) where
   module _ (lt : i < file_count_in d) where

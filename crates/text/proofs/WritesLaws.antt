@@ -1,6 +1,6 @@
 -- Bytes written one after the other: a text over a part that was lent, and behind others, where both are written as one. And how many
 -- digits a number has.
-use mathlib.Core.Path.{◌≡◌, refl, sym, ◌∙◌}
+use mathlib.Core.Path.{◌≡◌, refl, sym, ap, ◌∙◌}
 use mathlib.Core.Bool.{Bool, true, false}
 use mathlib.Core.List.{[], ◌∷◌, ◌++◌, append_assoc}
 use Prim.Native.Nat.{ℕ, ◌+◌, ◌-◌, ◌/◌, ◌%◌, ◌≤◌, ◌<◌}
@@ -9,32 +9,40 @@ use native.Mathlib.Omega.{arith}
 use borrow.Author.Tests.{lt-ltb}
 use lib.Dec.{ltb}
 use lib.ListN.{length, take, length-append}
+use borrow.Rule.Slice.Mut.{set_vals}
 use borrow.Rule.Slice.PartMut.{put_mid}
-use lib.Seq.{sets-eq, drop-drop}
+use lib.Seq.{sets, sets-eq, length-sets, drop-drop}
 use Rattle.lists.specs.Lists.{when◌then◌else◌}
 use Rattle.lists.proofs.ListLaws.{sets_append}
 use Rattle.sector.specs.Contents.{Bytes}
 use Rattle.volume.specs.Listing.{digit, decimal}
-use Rattle.text.specs.Writes.{Wrote, at_front}
+use Rattle.text.specs.declared.Writer.{Writer}
+use Rattle.text.specs.Writes.{HasRoom, Wrote, at_front}
 
 -- e is written behind d.
-pub wrote_more : {b c f d e : Bytes} {at n m : ℕ} → Wrote b at d c n → Wrote c n e f m → Wrote b at (d ++ e) f m
-wrote_more {b} {c} {f} {d} {e} {at} x y = record {
-  bytes = y.bytes ∙ rw (x.bytes, x.next) (sym (sets_append d e b at));
-  next = omega (arith, length-append d e);
+pub wrote_more : {d e : Bytes} {w x y : Writer} → Wrote d w x → Wrote e x y → Wrote (d ++ e) w y
+wrote_more {d} {e} {w} a b = record {
+  same = b.same ∙ a.same;
+  size = b.size ∙ a.size;
+  bytes = b.bytes ∙ rw (a.bytes, a.next) (sym (sets_append d e w.out.now w.at));
+  next = omega (arith, b.next, a.next, length-append d e);
 }
 
 -- At the front.
-pub wrote_front : {b c t : Bytes} {n : ℕ} → Wrote b 0 t c n → length t ≤ length b → (c ≡ at_front t b) × (n ≡ length t)
-wrote_front {b} {c} {t} w h =
-    let fits : 0 + length t ≤ length b = omega arith in
-    (w.bytes ∙ sets-eq t b 0 fits ∙ rw (zero-add (length t)), w.next ∙ zero-add (length t))
+pub wrote_front : {t : Bytes} {w x : Writer} → w.at ≡ 0 → Wrote t w x → length t ≤ length w.out.now
+    → (x.out.now ≡ at_front t w.out.now) × (x.at ≡ length t)
+wrote_front {t} {w} e a h =
+    let fits : 0 + length t ≤ length w.out.now = omega arith in
+    (a.bytes ∙ rw e (sets-eq t w.out.now 0 fits ∙ rw (zero-add (length t))), a.next ∙ rw e (zero-add (length t)))
 
 -- A part that is as long as the text was lent, and came back as the text.
-pub wrote_part : {b t x : Bytes} {at : ℕ} → x ≡ t → at + length t ≤ length b → Wrote b at t (put_mid at (at + length t - at) b x) (at + length t)
-wrote_part {b} {t} {x} {at} e fits =
-    let n : at + length t - at ≡ length t = omega arith in
-    record { bytes = rw (n, e, drop-drop) (sym (sets-eq t b at fits ∙ append_assoc (take at b) t _)); next = refl }
+pub wrote_part : {t x : Bytes} (w : Writer) → x ≡ t → HasRoom w (length t)
+    → Wrote t w (record { out = set_vals (put_mid w.at (w.at + length t - w.at) w.out.now x) w.out; at = w.at + length t })
+wrote_part {t} {x} w e fits =
+    let n : w.at + length t - w.at ≡ length t = omega arith in
+    let b : put_mid w.at (w.at + length t - w.at) w.out.now x ≡ sets w.out.now w.at t =
+    rw (n, e, drop-drop) (sym (sets-eq t w.out.now w.at fits ∙ append_assoc (take w.at w.out.now) t _)) in
+    record { same = refl; size = ap length b ∙ length-sets w.out.now w.at t; bytes = b; next = refl }
 
 -- ------------------------------------------------------------------ a number
 module _ (n : ℕ) where

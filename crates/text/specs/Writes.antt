@@ -1,12 +1,20 @@
--- Bytes written over those of an array.
-use Rattle.std.specs.Prelude.{◌≡◌, ◌++◌, ℕ, ◌+◌, length, drop}
+-- Bytes written over those of a buffer.
+use Rattle.std.specs.Prelude.{◌≡◌, ◌++◌, ℕ, ◌+◌, ◌≤◌, length, drop}
 use Rattle.std.proofs.lemmas.List.Edits.{sets}
 use Rattle.sector.specs.Contents.{Bytes}
+use Rattle.text.specs.declared.Writer.{Writer}
 
--- From b to c the bytes d were written at `at`, one after the other; n is the place behind them.
-pub record Wrote (b : Bytes) (at : ℕ) (d c : Bytes) (n : ℕ) : Type 0 where
-  pub bytes : c ≡ sets b at d
-  pub next : n ≡ at + length d
+-- A text of n bytes fits behind what this writer has written.
+abbrev pub HasRoom : Writer → ℕ → Type 0
+HasRoom w n = w.at + n ≤ length w.out.now
+
+-- From w to x the bytes d were written, one after the other: the buffer is the same one, and as long as it was; they stand in it
+-- where w was, and x is at the place behind them.
+pub record Wrote (d : Bytes) (w x : Writer) : Type 0 where
+  pub same : x.out.ghost_name ≡ w.out.ghost_name
+  pub size : length x.out.now ≡ length w.out.now
+  pub bytes : x.out.now ≡ sets w.out.now w.at d
+  pub next : x.at ≡ w.at + length d
 
 -- The text stands at the front, and what is behind it is as it was.
 abbrev pub at_front : Bytes → Bytes → Bytes

@@ -18,8 +18,7 @@ fn decide(v: &mut [u8], k: u8, run: Run) -> Result<Run, Crashed>
     requires { WellFormed v.old × IsClient (view v.old).table k }
     ensures { UpdatesMade v.old (Ok run) (set_record k (decided_record ((view v.old).records k)) ∷ []) v.new result }
 {
-    let mut buf = sector::zeros();
-    sector::load(&mut buf, FormedVolume { bytes: v }.record(k));
+    let mut buf = *FormedVolume { bytes: v }.client(k).record();
     sector::set_state(&mut buf, State::DECIDED);
     stores::put_record(v, k, &buf, run)
 }

@@ -12,7 +12,7 @@ ghost use Rattle.rules.specs.Refusals.{held_by_other};
 ghost use Rattle.stores.specs.Runs.{new_run, UpdatesMade};
 
 use stores::{Crashed, Run};
-use volume::{FormedVolume, TabledVolume};
+use volume::TabledVolume;
 
 // File f's header is put with holder k and the map that it has.
 fn claim(v: &mut [u8], k: u8, f: u8, run: Run) -> Result<Run, Crashed>
@@ -20,8 +20,7 @@ fn claim(v: &mut [u8], k: u8, f: u8, run: Run) -> Result<Run, Crashed>
     ensures { UpdatesMade v.old (Ok run) (set_header f (record { holder = k; map = ((view v.old).headers f).map }) ∷ [])
         v.new result }
 {
-    let mut buf = sector::zeros();
-    sector::load(&mut buf, TabledVolume { bytes: v }.header(f));
+    let mut buf = *TabledVolume { bytes: v }.file(f).header();
     sector::set_holder(&mut buf, k);
     stores::put_header(v, f, &buf, run)
 }
@@ -35,7 +34,7 @@ pub fn open_stores(v: &mut [u8], k: u8, f: u8, budget: u8) -> Result<Run, Crashe
         → UpdatesMade v.old (Ok (new_run budget)) (plan (view v.old) s (open_file k f)) v.new result }
 {
     let start = Run::new(budget);
-    let holder = FormedVolume { bytes: v }.holder(f);
+    let holder = TabledVolume { bytes: v }.file(f).holder();
     if holder == k {
         return Ok(start);
     }
@@ -58,7 +57,7 @@ pub fn open_read_stores(v: &mut [u8], k: u8, f: u8, budget: u8) -> Result<Run, C
         → UpdatesMade v.old (Ok (new_run budget)) (plan (view v.old) s (open_read k f)) v.new result }
 {
     let start = Run::new(budget);
-    let holder = FormedVolume { bytes: v }.holder(f);
+    let holder = TabledVolume { bytes: v }.file(f).holder();
     if holder == k {
         return Ok(start);
     }

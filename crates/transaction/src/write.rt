@@ -21,8 +21,7 @@ fn put_entry(v: &mut [u8], k: u8, entry: Entry, run: Run) -> Result<Run, Crashed
     requires { WellFormed v.old × IsClient (view v.old).table k × (length ((view v.old).records k).entries < entry_limit) }
     ensures { UpdatesMade v.old (Ok run) (set_record k (appended ((view v.old).records k) entry) ∷ []) v.new result }
 {
-    let mut buf = sector::zeros();
-    sector::load(&mut buf, FormedVolume { bytes: v }.record(k));
+    let mut buf = *FormedVolume { bytes: v }.client(k).record();
     sector::append_entry(&mut buf, entry);
     stores::put_record(v, k, &buf, run)
 }
@@ -45,6 +44,7 @@ pub fn write_again(
 
 // The stores of write for a page that has no entry yet, in the slot chosen for it: the page first, then the record with the
 // entry appended.
+// File, page and slot come as three, as the call has them.
 pub fn write_new(
     v: &mut [u8],
     k: u8,

@@ -2,11 +2,12 @@
 ghost use Rattle.std.specs.Prelude.{◌≡◌};
 ghost use Rattle.volume.specs.Lawful.{file_fits};
 
-use sector::Limits;
+use sector::{File, Limits};
 
 // Whether a file may have so many pages and slots.
-pub fn file_fits(pages: u8, slots: u8) -> bool
-    ensures { result ≡ file_fits (record { pages = pages; slots = slots }) }
+pub fn file_fits(x: File) -> bool
+    ensures { result ≡ file_fits x }
 {
-    (1 <= pages) & ((pages <= Limits::PAGES) & ((pages <= slots) & (slots <= Limits::SLOTS)))
+    (1 <= x.pages)
+        & ((x.pages <= Limits::PAGES) & ((x.pages <= x.slots) & (x.slots <= Limits::SLOTS)))
 }

@@ -6,5 +6,5 @@ mod read;
 mod write;
 
 pub use fits::file_fits;
-pub use read::{FormedVolume, SoundVolume, TabledVolume};
+pub use read::{FormedVolume, SoundVolume, TabledVolume, VolumeClient, VolumeFile};
 pub use write::{store_header, store_record, store_slot};

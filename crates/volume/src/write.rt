@@ -1,4 +1,5 @@
 // The stores of a volume that was found sound, by their meaning. Each is the one store of the sector layer.
+// `WellFormed v.old` stays a clause, and the stores stay three: `stores` says why of both.
 ghost use Rattle.std.specs.Prelude.{◌≡◌, ◌<◌, length};
 ghost use Rattle.sector.specs.Contents.{File, Table, Record, Header};
 ghost use Rattle.sector.specs.Encoding.{encode_record, encode_header};
@@ -23,7 +24,7 @@ pub fn store_header(v: &mut [u8], f: u8, src: &[u8; 256])
     requires { WellFormed v.old × IsFile (view v.old).table f }
     ensures { (h : Header) → src.now ≡ encode_header (file_at (view v.old).table f) h → v.new ≡ updated (view v.old).table v.old (set_header f h) }
 {
-    let s = TabledVolume { bytes: v }.header_sector(f);
+    let s = TabledVolume { bytes: v }.file(f).header_sector();
     sector::store(v, s, src);
 }
 
@@ -32,6 +33,6 @@ pub fn store_slot(v: &mut [u8], f: u8, r: u8, src: &[u8; 256])
     requires { WellFormed v.old × IsFile (view v.old).table f × (r < (file_at (view v.old).table f).slots) }
     ensures { v.new ≡ updated (view v.old).table v.old (set_slot f r src.now) }
 {
-    let s = TabledVolume { bytes: v }.header_sector(f) + 1 + usize::from(r);
+    let s = TabledVolume { bytes: v }.file(f).header_sector() + 1 + usize::from(r);
     sector::store(v, s, src);
 }

@@ -16,4 +16,4 @@ returns-in-Ok c =
     let a = c.args in
     let e = c.in-Ok.ensures.tested ∙ same_tests a.volume.now a.session a.client in
     let y = c.abort_stores-run in
-    c.end.ensures y.new.v ∙ rw c.without_client.ensures (ended_call a.volume.now a.session (abort a.client) a.budget e y.new.v y.result (y.ensures a.session))
+    c.end.ensures y.new.v ∙ rw (c.without_client-next.ensures, c.in_session.ensures, c.in-Ok.ensures.same.0) (ended_call a.volume.now a.session (abort a.client) a.budget e y.new.v y.result (y.ensures a.session))

@@ -12,6 +12,6 @@ returns-in-Err c =
 pub returns-in-Ok : goal.returns-in-Ok
 returns-in-Ok c =
     let a = c.args in
-    let y = c.commit_stores-made in
+    let y = c.commit_stores-run in
     c.end.ensures y.new.v
-    ∙ rw c.without_client.ensures (ended_call a.volume.now a.session (commit a.client) a.budget c.in-Ok.ensures.tested y.new.v y.result (y.ensures a.session))
+    ∙ rw (c.without_client-next.ensures, c.in_session.ensures, c.in-Ok.ensures.same.0) (ended_call a.volume.now a.session (commit a.client) a.budget c.in-Ok.ensures.tested y.new.v y.result (y.ensures a.session))

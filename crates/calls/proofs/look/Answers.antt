@@ -17,5 +17,5 @@ returns-in_err-v c =
 pub returns : goal.returns
 unfolding query_tests
 returns c =
-    ap found (rw (c.decided_slot-slot.ensures, c.formed.ensures, c.in_ok-v.ensures.same) at c.slot_sector.ensures)
+    ap found (rw (c.file.ensures.0, c.file.ensures.1, c.tabled.ensures, c.formed.ensures, c.decided_slot-slot.ensures, c.in_ok-v.ensures.same) at c.slot_sector.ensures)
     ∙ sym (query_answered c.args.volume.now new_session (look_page c.args.file c.args.page) (sym c.in_ok-v.ensures.tested))

@@ -1,9 +1,8 @@
--- `entries_fit` meets its contract. The loop keeps that the entries from i on decide, by the sectors in the two sets.
-use lib.ListN.{drop}
-use Rattle.sector.specs.Decoding.{decode_record}
+-- `entries_fit` meets its contract. The loop keeps that the entries that are left decide, by the sectors in the two sets.
+use Rattle.sector.specs.Walks.{entries_left}
 use Rattle.record_test.proofs.RecordLaws.{Left}
 use Rattle.record_test.proofs.entries_fit.Given as goal
 
-abbrev pub invariant-loop-i : goal.invariant-loop-i
-invariant-loop-i l =
-    Left l.table (decode_record l.d).entries (drop l.i (decode_record l.d).entries) l.pages.words l.slots.words
+abbrev pub invariant-loop-e : goal.invariant-loop-e
+invariant-loop-e l =
+    Left l.table.bytes.now (entries_left l.entries) (entries_left l.e-iterator) l.pages.words l.slots.words

@@ -1,21 +1,20 @@
--- `find_entry` meets its contract: what is left of the entries decides.
-use Rattle.std.proofs.Common.{◌≤◌, ◌<◌, ◌∙◌, sym, ap, arith, length}
+-- `find_entry` meets its contract: the first entry for the page, and its slot.
+use Rattle.std.proofs.Common.{rules, ◌≡◌, ◌∙◌}
+use borrow.Author.Tests.{tests}
+use Rattle.std.specs.Option.{option_map}
+use Rattle.std.proofs.lemmas.Iterator.Consumers.{YieldsList-from_first}
+use Rattle.std.proofs.lemmas.Iterator.Search.{find_from_yields_List}
+use Rattle.sector.specs.Entries.{for_page}
+use Rattle.sector.specs.Walks.{entries_left}
 use Rattle.volume.specs.Volumes.{view}
-use Rattle.volume.specs.WellFormed.{no_entry}
-use Rattle.slots.specs.Slots.{entry_slot}
-use Rattle.lists.proofs.TestLaws.{drop_next}
-use Rattle.lists.proofs.SearchLaws.{find_hit, find_done}
+use Rattle.slots.specs.Slots.{slot_of}
+use Rattle.slots.proofs.SlotLaws.{slot_found}
 use Rattle.slots.proofs.find_entry.Goals as goal
 
-pub returns-then-is_for_page : goal.returns-then-is_for_page
-unfolding entry_slot
-returns-then-is_for_page c =
-    let lt : c.loop-i.i < length ((view c.args.v.bytes.now).records c.args.k).entries = omega arith in
-    let hit = find_hit _ c.loop-i.i _ (drop_next _ c.loop-i.i no_entry lt) _ _ c.loop-i.invariant.left (sym c.is_for_page.ensures ∙ c.if-is_for_page.true) in
-    rw c.entry.ensures (sym (ap entry_slot hit))
-
 pub returns : goal.returns
-unfolding entry_slot
 returns c =
-    let z : length ((view c.args.v.bytes.now).records c.args.k).entries ≤ c.loop-i.i = omega arith in
-    sym (ap entry_slot (find_done _ c.loop-i.i z _ _ c.loop-i.invariant.left))
+    let entries = ((view c.args.c.volume.bytes.now).records c.args.c.number).entries in
+    let found = find_from_yields_List (for_page c.args.f c.args.p) c.find.new.self _ _ c.find.ensures.ran (YieldsList-from_first (λ x. x) entries_left entries c.entries.ensures)
+    (λ x b q k. search (rules, tests)) in
+    let slot : slot_of c.map.result ≡ slot_of (option_map (λ e. e.slot) (option_map (λ x. x) c.find.result)) = search rules in
+    rw found at slot ∙ slot_found (for_page c.args.f c.args.p) entries

@@ -8,7 +8,10 @@ use Rattle.slots.proofs.free_slot.Goals as goal
 
 pub returns : goal.returns
 returns c =
-    let begins = ap (λ (x : ℕ). x + 1) (c.from-start.ensures ∙ c.mapped_slot.ensures) in
-    free_found (view c.args.v.bytes.now) c.args.k c.args.f _ _ (rw c.new-taken.ensures at c.take_mapped.ensures) c.take_given.ensures
-    c.args.p _ _ (ap (λ (x : File). x.slots) c.file-n.ensures) begins c.lowest_missing.result _ c.lowest_missing.ensures.lowest c.lowest_missing.ensures.below
+    let x = c.of_file-file.ensures in
+    let mapped = rw (c.new-taken.ensures, x.1, x.0) at c.take_mapped.ensures in
+    let shape = rw (x.1, x.0) at c.shape-n.ensures in
+    let slot = rw (x.1, x.0) at c.mapped_slot.ensures in
+    free_found (view c.args.x.client.volume.bytes.now) c.args.x.client.number c.args.x.file _ _ mapped c.take_given.ensures
+    c.args.x.page _ _ (ap (λ (x : File). x.slots) shape) (ap (λ (x : ℕ). x + 1) (c.from-start.ensures ∙ slot)) c.lowest_missing.result _ c.lowest_missing.ensures.lowest c.lowest_missing.ensures.below
     (λ e. search (rules, e)) (λ e. search (rules, e)) (λ r e. search (rules, e))

@@ -4,17 +4,15 @@ use lib.Dec.{eqb}
 use Rattle.lists.proofs.TestLaws.{drop_next, taken_more}
 use Rattle.volume.specs.Volumes.{view}
 use Rattle.byteset.specs.Set.{has_byte}
-use Rattle.slots.proofs.SlotLaws.{one_more, one_more_length}
+use Rattle.slots.proofs.SlotLaws.{one_more}
 use Rattle.slots.proofs.take_mapped.Goals as goal
 
-pub loop-p-preserved : goal.loop-p-preserved
-loop-p-preserved c =
-    let lt : c.loop-p.p < length ((view c.args.v.bytes.now).headers c.args.f).map = omega arith in
-    let byte : c.from.result < 256 = omega (arith, c.mapped_slot.type_inv) in
-    let next = drop_next {A = ℕ} _ c.loop-p.p 0 lt in
+pub loop-r-preserved : goal.loop-r-preserved
+loop-r-preserved c =
+    let map = ((view c.args.x.volume.bytes.now).headers c.args.x.number).map in
+    let lt : c.loop-r.r-index < length map = rw c.map-r-items.ensures at c.loop-r-test.true in
+    let byte : c.from.result < 256 = omega (arith, c.type_inv.r-items c.loop-r.r-index) in
     record {
-      size = c.loop-p.invariant.size;
-      taken = λ y. taken_more _ c.loop-p.p _ next _ (eqb y) (has_byte c.loop-p.taken.words y) _ (c.loop-p.invariant.taken y)
-          (one_more _ _ _ c.loop-p.invariant.long byte c.insert.ensures.1 y ∙ rw (c.from.ensures, c.mapped_slot.ensures));
-      long = one_more_length _ _ _ c.loop-p.invariant.long c.insert.ensures.1;
+      taken = λ y. taken_more _ c.loop-r.r-index _ (drop_next {A = ℕ} map c.loop-r.r-index 0 lt) _ (eqb y) (has_byte c.loop-r.taken.words y) _ (c.loop-r.invariant.taken y)
+          (one_more _ _ _ c.loop-r.taken.long byte c.insert.ensures.1 y ∙ rw (c.from.ensures, c.map-r-items.ensures));
     }

@@ -1,14 +1,15 @@
--- `headers_are_sound` meets its contract. The loop keeps that the headers from f on decide.
+-- `headers_are_sound` meets its contract: each of the files is looked at.
+use borrow.Author.Tests.{tests}
 use native.Mathlib.Omega.{arith}
-use mathlib.Core.Path.{sym}
-use Prim.Native.Nat.{◌+◌}
+use Rattle.std.proofs.Common.{rules}
+use Rattle.std.proofs.lemmas.Iterator.Search.{all_from_yields_List}
+use Rattle.lists.proofs.RangeLaws.{yields_inclusive}
 use Rattle.sector.specs.Decoding.{file_count_in, decode_table}
-use Rattle.lists.proofs.TestLaws.{numbers_more}
 use Rattle.header_test.specs.Header.{header_sound}
 use Rattle.soundness.proofs.headers_are_sound.Goals as goal
 
-pub loop-f-preserved : goal.loop-f-preserved
-loop-f-preserved c =
-    let w = c.args.w.now in
-    let n = file_count_in w.table.now + 1 in
-    numbers_more (header_sound (decode_table w.table.now) w.v.now) _ n c.loop-f.f c.loop-f.invariant (omega (arith, c.loop-f-test.true, c.table_files-f-end.ensures)) (sym c.if-not-header_is_sound.ensures)
+pub returns : goal.returns
+returns c =
+    all_from_yields_List (header_sound (decode_table c.args.w.now.table.now) c.args.w.now.v.now) _ _ _ c.all.ensures.ran
+    (yields_inclusive 1 (file_count_in c.args.w.now.table.now) c.new.ensures.start c.new.ensures.exhausted (omega (arith, c.new.ensures.end, c.table_files.ensures)))
+    (λ x b q k. search (rules, tests))

@@ -18,3 +18,10 @@ unfolding repeated
 returns-clause-puts c =
     let e : c.args.clients + 1 - c.loop-k.k ≡ 0 = omega arith in
     c.loop-k.invariant.1 c.loop-k.v (rw e (puts_zeros (256 * c.loop-k.k) 0 c.loop-k.v))
+
+pub returns-2-clause-puts : goal.returns-2-clause-puts
+unfolding repeated
+returns-2-clause-puts c =
+    let e : c.args.clients + 1 - (c.loop-k.k + 1) ≡ 0 = omega arith in
+    let turn = records_turn c.args.clients c.loop-k.k c.loop-k.v (omega arith) (omega arith) in
+    rw c.put_record.ensures (c.loop-k.invariant.1 _ (turn _ (rw e (puts_zeros (256 * (c.loop-k.k + 1)) 0 _))))

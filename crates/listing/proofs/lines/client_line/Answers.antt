@@ -6,4 +6,4 @@ use Rattle.listing.proofs.lines.client_line.Goals as goal
 pub returns : goal.returns
 unfolding client_line
 returns c =
-    wrote_more c.put_field-word.ensures (wrote_more c.put_state-number.ensures (wrote_more c.put_field-end.ensures c.put.ensures))
+    wrote_more c.put_field.ensures (wrote_more c.put_state.ensures (wrote_more c.put_field-2.ensures c.put.ensures))

@@ -6,4 +6,4 @@ use Rattle.listing.proofs.lines.file_line.Goals as goal
 pub returns : goal.returns
 unfolding file_line
 returns c =
-    wrote_more c.put_field-by.ensures (wrote_more c.put_field-of.ensures (wrote_more c.put_field-over.ensures (wrote_more c.put_field-end.ensures c.put.ensures)))
+    wrote_more c.put_field.ensures (wrote_more c.put_field-2.ensures (wrote_more c.put_field-3.ensures (wrote_more c.put_field-4.ensures c.put.ensures)))

@@ -6,4 +6,4 @@ use Rattle.listing.proofs.lines.list_clients.Given as goal
 
 abbrev pub invariant-loop-k : goal.invariant-loop-k
 invariant-loop-k l =
-    Writing (client_line_of (view l.v.bytes.now)) (view l.v.bytes.now).table.clients l.initial.out 0 l.k l.out l.at
+    Writing (client_line_of (view l.v.bytes.now)) (view l.v.bytes.now).table.clients l.initial.w l.k l.w

@@ -7,4 +7,4 @@ use Rattle.listing.proofs.lines.list_files.Given as goal
 
 abbrev pub invariant-loop-f : goal.invariant-loop-f
 invariant-loop-f l =
-    Writing (file_line_of (view l.v.bytes.now)) (length (view l.v.bytes.now).table.files) l.initial.out l.start l.f l.out l.at
+    Writing (file_line_of (view l.v.bytes.now)) (length (view l.v.bytes.now).table.files) l.initial.w l.f l.w

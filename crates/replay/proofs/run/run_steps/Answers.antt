@@ -1,43 +1,45 @@
--- `run_steps` meets its contract: what is left of the script decides, from the volume, session and transcript that there are.
-use mathlib.Core.Path.{refl, ◌∙◌}
+-- `run_steps` meets its contract: the steps that are left decide, from the volume, session and transcript that there are.
+use mathlib.Core.Path.{◌≡◌, refl, sym, ap, ◌∙◌}
+use mathlib.Core.List.{map}
 use native.Mathlib.Omega.{arith}
-use Rattle.std.proofs.lemmas.List.{take_rest}
 use borrow.Author.Rules.{rules}
 use Rattle.atomicity.specs.Model.{new_model}
 use Rattle.commands.specs.Commands.{run_of}
-use Rattle.replay.proofs.ScriptLaws.{whole_step, no_step}
-use Rattle.replay.proofs.TranscriptLaws.{wrote_length}
+use Rattle.replay.specs.Scripts.{step_in, steps}
+use Rattle.replay.specs.Transcripts.{transcript_length}
+use Rattle.replay.specs.Walks.{pieces, pieces_left}
+use Rattle.replay.proofs.ScriptLaws.{first_piece, steps_are}
 use Rattle.replay.proofs.RunLaws.{going_start, going_more, going_end, room_now, room_then}
 use Rattle.replay.proofs.run.run_steps.Goals as goal
 
-pub loop-n-init : goal.loop-n-init
-loop-n-init c =
+pub loop-bytes-init : goal.loop-bytes-init
+loop-bytes-init c =
+    let all : pieces_left c.into_iter-bytes-iterator.result ≡ pieces c.args.script.now = ap pieces_left c.into_iter-bytes-iterator.ensures.into_iter_gives ∙ c.of-bytes-items.ensures in
+    let left : steps c.args.script.now ≡ map step_in (pieces_left c.into_iter-bytes-iterator.result) = steps_are c.args.script.now ∙ ap (map step_in) (sym all) in
     record {
-      going = λ m. going_start c.args.v.now c.args.s m c.args.script.now c.args.out.now;
-      room = omega (arith, c.requires);
-      out = refl;
+      going = λ m. going_start c.args.v.now c.args.s m c.args.script.now _ left;
+      room = omega (arith, c.requires, ap transcript_length left);
+      same = refl;
       volume = refl;
     }
 
-pub step-done-requires : goal.step-done-requires
-step-done-requires c =
-    let i = c.loop-n in
-    let w = whole_step i.rest.now c.in-Some.n c.in-Some.ensures.value in
-    (c.in-Some.ensures.value, c.in-Some.ensures.inside.0, c.in-Some.ensures.inside.1, rw i.invariant.out (room_now _ _ w i.invariant.room))
+pub step-last-requires : goal.step-last-requires
+step-last-requires c =
+    let more = c.in-Some.ensures.steps in
+    (first_piece _ more, room_now (ap (map step_in) more) c.loop-bytes.w c.loop-bytes.invariant.room)
 
-pub loop-n-preserved : goal.loop-n-preserved
-loop-n-preserved c =
-    let i = c.loop-n in
-    let w = whole_step i.rest.now c.in-Some.n c.in-Some.ensures.value in
-    let e = (c.step-done.ensures new_model).entry in
-    rw (take_rest i.rest.now c.in-Some.n) (record {
-      going = λ m. going_more (i.invariant.going m) w c.step-done.ensures;
-      room = room_then (run_of i.v i.last new_model) _ _ _ w e.next i.invariant.room;
-      out = wrote_length e ∙ i.invariant.out;
+pub loop-bytes-preserved : goal.loop-bytes-preserved
+loop-bytes-preserved c =
+    let i = c.loop-bytes in
+    let more = ap (map step_in) c.in-Some.ensures.steps in
+    let e = (c.step-last.ensures new_model).entry in
+    record {
+      going = λ m. going_more (i.invariant.going m) more c.step-last.ensures;
+      room = room_then more (run_of i.v i.last new_model) e i.invariant.room;
+      same = e.same ∙ i.invariant.same;
       volume = search rules;
-    })
+    }
 
 pub returns : goal.returns
 returns c =
-    let i = c.loop-n in
-    λ m. going_end (i.invariant.going m) (no_step i.rest.now c.in_default.ensures.value) c.requires
+    λ m. going_end (search rules) refl (c.loop-bytes.invariant.going m) (ap (map step_in) c.in-None.ensures.steps.0) c.requires

@@ -1,7 +1,7 @@
 -- `put_query` meets its contract: a refused question shows nothing; else the sector answered lies inside the volume, and its bytes and
 -- the part handed back follow the answer.
 use Rattle.text.proofs.WritesLaws.{wrote_more}
-use Rattle.replay.proofs.TranscriptLaws.{refused_entry, inside_found, found_entry}
+use Rattle.replay.proofs.TranscriptLaws.{refused_entry, inside_found, found_entry, zero_pages}
 use Rattle.replay.proofs.transcript.put_query.Goals as goal
 
 pub part-requires : goal.part-requires
@@ -10,11 +10,11 @@ part-requires c =
 
 pub returns-in-Err : goal.returns-in-Err
 returns-in-Err c =
-    let w = wrote_more (rw (c.from-in-Err.ensures, c.from.ensures) at c.put_head-next.ensures) c.put_nothing.ensures in
+    let w = wrote_more (rw (c.from-in-Err.ensures, c.from.ensures) at c.put_head.ensures) (rw zero_pages at c.put.ensures) in
     rw (refused_entry c.args.v.now c.args.s c.args.c c.args.o c.args.q c.requires.1 c.in-Err.r c.in-Err.is) at w
 
 pub returns-in-Ok : goal.returns-in-Ok
 returns-in-Ok c =
-    let w = wrote_more c.put_head-next-in-Ok.ensures
-    (wrote_more (rw (c.part.ensures, c.from-in-Ok.ensures) at c.put-behind.ensures) (rw c.page.ensures at c.put.ensures)) in
+    let w = wrote_more c.put_head-in-Ok.ensures
+    (wrote_more (rw (c.part.ensures, c.from-in-Ok.ensures) at c.put-in-Ok.ensures) (rw c.page.ensures at c.put-in-Ok-2.ensures)) in
     rw (found_entry c.args.v.now c.args.s c.args.c c.args.o c.args.q c.requires.1 c.in-Ok.n c.in-Ok.is) at w

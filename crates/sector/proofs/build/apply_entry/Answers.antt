@@ -5,12 +5,8 @@ use Rattle.sector.proofs.build.apply_entry.Goals as goal
 
 pub returns-then-e-f : goal.returns-then-e-f
 unfolding entry_applied
-returns-then-e-f c =
-    let own = rw c.entry-e.ensures at c.if-e-f.true in
-    rw (eq-eqb _ _ own, c.from.ensures, c.entry-e.ensures)
+returns-then-e-f c = rw (eq-eqb _ _ c.if-e-f.true, c.from.ensures)
 
 pub returns-else-e-f : goal.returns-else-e-f
 unfolding entry_applied
-returns-else-e-f c =
-    let other = rw c.entry-e.ensures at c.if-e-f.false in
-    rw (ne_eqb _ _ other)
+returns-else-e-f c = rw (ne_eqb _ _ c.if-e-f.false)

@@ -3,4 +3,4 @@ use Rattle.sector.proofs.EditLaws.{record_empty}
 use Rattle.sector.proofs.fresh.empty_record.Goals as goal
 
 pub returns : goal.returns
-returns c = record { buf_after = rw c.requires (record_empty c.args.state) }
+returns c = rw c.zeros.ensures (record_empty c.args.state)

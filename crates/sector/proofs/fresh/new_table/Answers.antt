@@ -11,6 +11,6 @@ use Rattle.sector.proofs.fresh.new_table.Goals as goal
 
 pub returns : goal.returns
 returns c =
-    let l = c.args.shape.now in
+    let l = c.args.files.pairs.now in
     let count : length l / 2 ≡ length (files_of l) = omega (arith, files_count l) in
-    record { buf_after = table_built c.args.sectors c.args.clients _ l _ count c.requires.2 (rw (c.put_word.ensures, c.requires.0, c.from.ensures) at c.put_entries.ensures) }
+    table_built c.args.sectors c.args.clients _ l _ count c.args.files.short (rw (c.put_word.ensures, c.zeros.ensures, c.from.ensures) at c.put_entries.ensures)

@@ -1,28 +1,30 @@
--- `put_entries` meets its contract: a turn puts the entry with index `i`, so that what puts those from `i` + 1 on still puts all.
--- At the end none are left to put.
-use mathlib.Core.Path.{◌≡◌}
-use mathlib.Core.List.{[]}
-use Prim.Native.Nat.{◌+◌}
+-- `put_entries` meets its contract: a turn puts the entry of one file, so that what puts those behind it still puts all. At the end
+-- none are left to put.
+use mathlib.Core.Path.{ap}
+use Prim.Native.Nat.{◌≤◌}
 use native.Mathlib.Omega.{arith}
-use lib.ListN.{drop}
-use Rattle.sector.specs.Layout.{item_offset}
+use lib.ListN.{length}
+use Rattle.sector.specs.Layout.{file_limit}
 use Rattle.sector.specs.Encoding.{file_bytes}
-use Rattle.sector.specs.Shapes.{files_of}
+use Rattle.sector.specs.Walks.{files_left}
 use Rattle.sector.proofs.PutsLaws.{puts_zeros}
-use Rattle.sector.proofs.ShapeLaws.{files_end}
+use Rattle.sector.proofs.ShapeLaws.{files_count}
 use Rattle.sector.proofs.FreshLaws.{entries_turn}
 use Rattle.sector.proofs.fresh.put_entries.Goals as goal
 
-pub loop-i-preserved : goal.loop-i-preserved
-loop-i-preserved c =
-    let l = c.args.shape.now in
-    let turn = entries_turn l c.loop-i.i c.loop-i.h c.loop-i.buf _ (omega arith) (rw c.pair-x.ensures at c.put_entry.ensures) in
-    let next : c.loop-i.h + (1 + c.pair-x.result.slots) ≡ c.loop-i.h + 1 + c.pair-x.result.slots = omega arith in
-    (omega arith, rw (c.from.ensures, next, c.pair-x.ensures) (λ w x. c.loop-i.invariant.1 w (turn w x)))
+pub loop-x-init : goal.loop-x-init
+loop-x-init c =
+    let few : length (files_left c.args.files) ≤ file_limit = omega (arith, files_count c.args.files.pairs.now, c.args.files.short) in
+    rw c.into_iter-x-iterator.ensures.into_iter_gives (omega (arith, few), omega (arith, few), λ w x. x)
+
+pub loop-x-preserved : goal.loop-x-preserved
+loop-x-preserved c =
+    let step = c.in-Some.ensures.steps in (
+      omega (arith, ap length step),
+      omega (arith, ap length step, c.sectors-h.ensures),
+      rw c.sectors-h.ensures (λ w x. c.loop-x.invariant.2 w (entries_turn _ _ _ c.loop-x.at c.loop-x.h c.loop-x.buf _ w step c.put_entry.ensures x)),
+    )
 
 pub returns : goal.returns
 unfolding file_bytes
-returns c =
-    let l = c.args.shape.now in
-    let z : drop c.loop-i.i (files_of l) ≡ [] = files_end l c.loop-i.i (omega arith) in
-    c.loop-i.invariant.1 _ (rw z (puts_zeros (item_offset c.loop-i.i) 0 c.loop-i.buf))
+returns c = c.loop-x.invariant.2 _ (rw c.in-None.ensures.steps.0 (puts_zeros c.loop-x.at 0 c.loop-x.buf))

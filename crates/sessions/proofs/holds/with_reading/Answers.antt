@@ -4,4 +4,4 @@ use Rattle.sessions.proofs.holds.with_reading.Goals as goal
 
 pub returns : goal.returns
 unfolding with_bit
-returns c = rw (c.mask.ensures, c.from.ensures)
+returns c = rw (c.mask.ensures, c.index.ensures.0)

@@ -1,10 +1,12 @@
--- `without_reading` meets its contract: where nobody reads, the session stays as it is.
-use mathlib.Core.Path.{sym, ◌∙◌}
-use borrow.Author.Tests.{eq-eqb}
-use Rattle.rules.proofs.SessionLaws.{none_reading_lem, without_unread}
+-- `without_reading` meets its contract: all bits but the file's are kept.
+use Prim.Native.Nat.{◌-◌, ◌<◌}
+use lib.ListN.{get_or}
+use Rattle.std.proofs.Common.{arith}
+use Rattle.sessions.proofs.HoldLaws.{all_but}
 use Rattle.sessions.proofs.holds.without_reading.Goals as goal
 
-pub returns-then-all_holds-eq0 : goal.returns-then-all_holds-eq0
-returns-then-all_holds-eq0 c =
-    sym (without_unread c.args.s c.args.k c.args.f
-    (none_reading_lem c.args.s (sym c.all_holds.ensures ∙ eq-eqb _ 0 c.if-all_holds-eq0.true) c.args.k c.args.f c.requires.0 c.requires.1))
+pub returns : goal.returns
+returns c =
+    let word : get_or c.args.s.reading (c.args.k.number - 1) 0 < 65536 = search arith in
+    let bit : c.args.f.number - 1 < 16 = omega (arith, c.args.f.low, c.args.f.high) in
+    rw (c.mask.ensures, c.index.ensures.0, all_but _ _ word bit)

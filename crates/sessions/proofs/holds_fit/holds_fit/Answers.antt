@@ -1,19 +1,19 @@
 -- `holds_fit` meets its contract: where nobody reads there is nothing to test; else each of the four clients is looked at.
-use mathlib.Core.Path.{refl, sym, ◌∙◌}
-use borrow.Author.Tests.{eq-eqb, tests}
+use mathlib.Core.Path.{sym, ◌∙◌}
+use borrow.Author.Tests.{tests}
 use Rattle.std.proofs.Common.{rules}
-use Rattle.std.proofs.lemmas.Iterator.{YieldsList-from_range}
+use native.Mathlib.Omega.{arith}
 use Rattle.std.proofs.lemmas.Iterator.Search.{all_from_yields_List}
 use Rattle.volume.specs.Volumes.{view}
+use Rattle.lists.proofs.RangeLaws.{yields_inclusive}
 use Rattle.rules.specs.Sessions.{client_holds_fit}
 use Rattle.rules.proofs.SessionLaws.{none_fits}
 use Rattle.sessions.proofs.holds_fit.holds_fit.Goals as goal
 
-pub returns-then-all_holds-eq0 : goal.returns-then-all_holds-eq0
-returns-then-all_holds-eq0 c =
-    eq-eqb _ 0 c.if-all_holds-eq0.true ∙ sym (none_fits _ c.args.s (sym c.all_holds.ensures ∙ eq-eqb _ 0 c.if-all_holds-eq0.true))
+pub returns-then-none_reads : goal.returns-then-none_reads
+returns-then-none_reads c = c.if-none_reads.true ∙ sym (none_fits _ c.args.s (sym c.none_reads.ensures ∙ c.if-none_reads.true))
 
-pub returns-else-all_holds-eq0 : goal.returns-else-all_holds-eq0
-returns-else-all_holds-eq0 c =
-    all_from_yields_List (client_holds_fit (view c.args.v.bytes.now) c.args.s) _ _ _ c.all.ensures.ran (YieldsList-from_range 1 5 4 refl refl)
+pub returns-else-none_reads : goal.returns-else-none_reads
+returns-else-none_reads c =
+    all_from_yields_List (client_holds_fit (view c.args.v.bytes.now) c.args.s) _ _ _ c.all.ensures.ran (yields_inclusive 1 4 c.new.ensures.start c.new.ensures.exhausted (omega (arith, c.new.ensures.end)))
     (λ x b q k. search (rules, tests))

@@ -1,5 +1,4 @@
 -- `open_read_stores` meets its contract, by the file's holder: the client itself, nobody, or another client, which is recovered.
-use Rattle.std.proofs.Common.{◌∙◌, sym}
 use Rattle.volume.specs.Volumes.{view}
 use Rattle.stores.proofs.MadeLaws.{made_none}
 use Rattle.transaction.proofs.OpenLaws.{own_read_plan, free_read_plan, holder_client, open_read_made}
@@ -7,18 +6,17 @@ use Rattle.transaction.proofs.open.open_read_stores.Goals as goal
 
 pub returns-then-holder-k : goal.returns-then-holder-k
 returns-then-holder-k c =
-    λ t free unread. rw (own_read_plan (view c.args.v.now) t c.args.k c.args.f (sym c.holder-holder.ensures ∙ c.if-holder-k.true), c.new-start.ensures) made_none
+    λ t free unread. rw (own_read_plan (view c.args.v.now) t c.args.k c.args.f (cc), c.new-start.ensures) made_none
 
 pub returns-then-holder-eq0 : goal.returns-then-holder-eq0
 returns-then-holder-eq0 c =
-    let holder = sym c.holder-holder.ensures in
-    λ t free unread. rw (free_read_plan (view c.args.v.now) t c.args.k c.args.f (rw holder c.if-holder-k.false) (holder ∙ c.if-holder-eq0.true), c.new-start.ensures) made_none
+    λ t free unread. rw (free_read_plan (view c.args.v.now) t c.args.k c.args.f (λ e. c.if-holder-k.false (cc)) (cc), c.new-start.ensures) made_none
 
 pub recover-requires : goal.recover-requires
 recover-requires c =
-    (c.requires.0, holder_client c.requires.0 c.requires.1 c.requires.2 (sym c.holder-holder.ensures) c.if-holder-k.false c.if-holder-eq0.false)
+    (c.requires.0, holder_client c.requires.0 c.requires.1 c.requires.2 (cc) c.if-holder-k.false c.if-holder-eq0.false)
 
 pub returns : goal.returns
 returns c =
-    open_read_made c.requires.0 c.requires.1 c.requires.2 (sym c.holder-holder.ensures) c.if-holder-k.false c.if-holder-eq0.false
+    open_read_made c.requires.0 c.requires.1 c.requires.2 (cc) c.if-holder-k.false c.if-holder-eq0.false
     (rw c.new-start.ensures at c.recover.ensures.updates_made)
