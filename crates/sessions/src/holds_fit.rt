@@ -30,8 +30,8 @@ fn noted_fits(v: FormedVolume<'_>, s: Session, k: ClientNumber, f: FileNumber) -
 }
 
 // Whether client k may hold for reading every file that it so holds. It looks no further than the last of them, and by `..`: over
-// all 16 files a `begin` on the small volume takes 2179 instructions (here 1204, in Rust 1454), by `..=` one on the largest 8666 (here
-// 7987, in Rust 8440), so each misses its bar.
+// all 16 files a `begin` on the small volume takes 2179 instructions (here 1203, in Rust 1454), by `..=` one on the largest 8666 (here
+// 7972, in Rust 8440), so each misses its bar.
 fn client_holds_fit(v: FormedVolume<'_>, s: Session, k: ClientNumber) -> bool
     ensures { result ≡ client_holds_fit (view v.entry.bytes.now) s k.number }
 {
@@ -45,7 +45,8 @@ fn client_holds_fit(v: FormedVolume<'_>, s: Session, k: ClientNumber) -> bool
 }
 
 // Whether every client may hold what it holds for reading. Ruled out: a hold of a held file accepted
-// (`must-fail/held_file_accepted`); one client's holds alone looked at (`must-fail/holds_of_client_1`).
+// (`must-fail/held_file_accepted`); one client's holds alone looked at (`must-fail/holds_of_client_1`), or a client's last one
+// passed over (`must-fail/last_hold_passed_over`).
 pub fn holds_fit(v: FormedVolume<'_>, s: Session) -> bool
     ensures { result ≡ holds_fit (view v.entry.bytes.now) s }
 {
