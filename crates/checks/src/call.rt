@@ -17,6 +17,8 @@ use sessions::{is_active, session_fits};
 use soundness::sound_volume;
 
 // Tests 1 to 3: the volume is sound, the session fits it, and client k exists.
+// It becomes part of each test below, so that what it hands up isn't laid on the stack under the deepest test, that of the volume.
+#[inline(always)]
 fn check_client(v: &[u8], s: Session, k: u8) -> Result<Caller<'_>, Refusal>
     ensures tested { number_of result ≡ first (client_tests (sound v.now) (view v.now) s k) }
     ensures same { IfOk result (λ c. (c.client.number ≡ k) × (c.client.volume.bytes.now ≡ v.now) × (c.session ≡ s)) }

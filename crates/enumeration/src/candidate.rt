@@ -24,37 +24,34 @@ fn append_choice(buf: &mut [u8; 256], e: usize)
     append_entry(buf, entry_at(e));
 }
 
-// The record with this state and the entries of this list. A list that isn't empty is an earlier one with one
-// entry more: after the empty list there is, for each list in order, that list with each entry.
+// The record with this state and the entries of this list, built in the array lent, as a header is: one handed back would be copied.
+// A list that isn't empty is an earlier one with one entry more: after the empty list there is, for each list in order, that list
+// with each entry.
 #[tactic(auto, using(crate::proofs::ChoiceLaws::entries_count, crate::proofs::ChoiceLaws::lists_count, crate::proofs::ChoiceLaws::list_first, crate::proofs::ChoiceLaws::list_longer, crate::proofs::ChoiceLaws::list_room))]
-fn build_record(state: u8, list: usize) -> [u8; 256]
+fn build_record(buf: &mut [u8; 256], state: u8, list: usize)
     requires { list < length entry_lists }
-    ensures { result ≡ encode_record (record { state = state; entries = get_or entry_lists list [] }) }
+    ensures { buf.new ≡ encode_record (record { state = state; entries = get_or entry_lists list [] }) }
 {
     if list == 0 {
-        let mut buf = zeros();
-        empty_record(&mut buf, state);
-        return buf;
+        empty_record(buf, state);
+        return;
     }
-    let mut buf = build_record(state, (list - 1) / Choices::ENTRIES);
-    append_choice(&mut buf, (list - 1) % Choices::ENTRIES);
-    buf
+    build_record(buf, state, (list - 1) / Choices::ENTRIES);
+    append_choice(buf, (list - 1) % Choices::ENTRIES);
 }
 
 // Header b.
 #[tactic(auto, using(crate::proofs::ChoiceLaws::maps_count, crate::proofs::ChoiceLaws::headers_count, crate::proofs::ChoiceLaws::header_made))]
-fn build_header(b: usize) -> [u8; 256]
+fn build_header(buf: &mut [u8; 256], b: usize)
     requires { b < length header_choices }
-    ensures { result ≡ encode_header small_file (get_or header_choices b no_header) }
+    ensures { buf.new ≡ encode_header small_file (get_or header_choices b no_header) }
 {
     let [first, second] = map_at(b % Choices::MAPS);
-    let mut buf = zeros();
-    new_header(&mut buf, Small::FILE);
+    new_header(buf, Small::FILE);
     // A cast: the holder is shown to fit, and `try_from` would only add an `unwrap`.
-    set_holder(&mut buf, (b / Choices::MAPS) as u8);
-    set_map_slot(&mut buf, 0, first);
-    set_map_slot(&mut buf, 1, second);
-    buf
+    set_holder(buf, (b / Choices::MAPS) as u8);
+    set_map_slot(buf, 0, first);
+    set_map_slot(buf, 1, second);
 }
 
 // Record a is stored. It and `put_header` stay two, as `format`'s.
@@ -64,8 +61,9 @@ fn put_record(v: &mut [u8; Small::LENGTH], a: usize)
     ensures { v.new ≡ updated small_table v.old (set_record 1 (get_or record_choices a idle_record)) }
 {
     // A cast: the state is shown to fit, and `try_from` would only add an `unwrap`.
-    let record = build_record((a / Choices::LISTS) as u8, a % Choices::LISTS);
-    store(v, Small::RECORD, &record);
+    let mut buf = zeros();
+    build_record(&mut buf, (a / Choices::LISTS) as u8, a % Choices::LISTS);
+    store(v, Small::RECORD, &buf);
 }
 
 // Header b is stored.
@@ -74,7 +72,9 @@ fn put_header(v: &mut [u8; Small::LENGTH], b: usize)
     requires { b < length header_choices }
     ensures { v.new ≡ updated small_table v.old (set_header 1 (get_or header_choices b no_header)) }
 {
-    store(v, Small::HEADER, &build_header(b));
+    let mut buf = zeros();
+    build_header(&mut buf, b);
+    store(v, Small::HEADER, &buf);
 }
 
 // The array becomes candidate i.

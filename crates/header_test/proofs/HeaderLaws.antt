@@ -106,6 +106,26 @@ module _ (v : Volume) (tb : Bytes) (f : ℕ) (lo : 1 ≤ f) (hi : f ≤ file_cou
   pub no_header_lem : is_header_encoding (file_in tb (f - 1)) d ≡ false → header_sound (decode_table tb) v f ≡ false
   no_header_lem e = sound_is ∙ rw e
 
+  module _ (ok : is_header_encoding (file_in tb (f - 1)) d ≡ true) (len : length d ≡ 256) (few : (file_in tb (f - 1)).pages ≤ 120) where
+    parts_lem : header_sound (decode_table tb) v f
+        ≡ (map_fits (file_in tb (f - 1)).slots (decode_header (file_in tb (f - 1)) d).map
+        && (eqb (decode_header (file_in tb (f - 1)) d).holder 0
+        || holder_fits (record_in (decode_table tb) (bytes_at (decode_table tb) v)) (decode_table tb) f (decode_header (file_in tb (f - 1)) d)))
+    unfolding map_fits all
+    parts_lem =
+        let count : eqb (length (decode_header (file_in tb (f - 1)) d).map) (file_in tb (f - 1)).pages ≡ true =
+        eq-eqb _ _ (decoded_map (file_in tb (f - 1)) d len (omega arith)) in
+        sound_is ∙ rw (ok, file_is tb f lo hi, count) (simp (and_assoc, and-true))
+
+    pub map_no_lem : map_fits (file_in tb (f - 1)).slots (decode_header (file_in tb (f - 1)) d).map ≡ false → header_sound (decode_table tb) v f ≡ false
+    map_no_lem e = parts_lem ∙ rw e
+
+    pub header_last_lem : map_fits (file_in tb (f - 1)).slots (decode_header (file_in tb (f - 1)) d).map ≡ true
+        → (s : List ℕ) → Holds s (decode_header (file_in tb (f - 1)) d).map
+        → holder_test (decode_table tb) v (holder_in d) f s ≡ header_sound (decode_table tb) v f
+    unfolding decode_header
+    header_last_lem e s hs = holder_is (decode_table tb) v (holder_in d) f s (decode_header (file_in tb (f - 1)) d).map hs ∙ sym (parts_lem ∙ rw e)
+
 -- It is found by the table, where all but the headers has been tested.
 module _ {v : Volume} {tb : Bytes} (tested : Tested v tb) (f : ℕ) (lo : 1 ≤ f) (hi : f ≤ file_count_in tb) {i s : ℕ} (same : i ≡ f)
     (place : s ≡ header_sector_in tb (i - 1)) {d : Bytes} (read : d ≡ sector v s) where
@@ -124,24 +144,24 @@ module _ {v : Volume} {tb : Bytes} (tested : Tested v tb) (f : ℕ) (lo : 1 ≤ 
   at : d ≡ bytes_at t v (header_place f)
   at = read ∙ ap (sector v) (place ∙ rw same (tested.header_is f lo hi))
 
-  sound_here : header_sound t v f ≡ (is_header_encoding x d && header_fits recs t f h)
-  sound_here = rw same (sound_is v tb f lo hi d at)
-
   pub no_header : is_header_encoding x d ≡ false → header_sound t v f ≡ false
   no_header e = no_header_lem v tb f lo hi d at (rw same at e)
 
   module _ (ok : is_header_encoding x d ≡ true) where
+    ok_here : is_header_encoding (file_in tb (f - 1)) d ≡ true
+    ok_here = rw same at ok
+
+    len : length d ≡ 256
+    len = rw read (sector_length v s (rw (place, same) (tested.headers f lo hi)))
+
+    few : (file_in tb (f - 1)).pages ≤ 120
+    few = tested.pages f lo hi
+
     parts : header_sound t v f ≡ (map_fits x.slots h.map && (eqb h.holder 0 || holder_fits recs t f h))
-    unfolding map_fits all
-    parts =
-        let len : length d ≡ 256 = rw read (sector_length v s (rw (place, same) (tested.headers f lo hi))) in
-        let few : x.pages ≤ 120 = rw same (tested.pages f lo hi) in
-        let count : eqb (length h.map) x.pages ≡ true = eq-eqb _ _ (decoded_map x d len (omega arith)) in
-        sound_here ∙ rw (ok, file_is tb f lo hi, ← same, count) (simp (and_assoc, and-true))
+    parts = rw same (parts_lem v tb f lo hi d at ok_here len few)
 
     pub map_no : map_fits x.slots h.map ≡ false → header_sound t v f ≡ false
-    map_no e = parts ∙ rw e
+    map_no e = map_no_lem v tb f lo hi d at ok_here len few (rw same at e)
 
     pub header_last : map_fits x.slots h.map ≡ true → (s : List ℕ) → Holds s h.map → holder_test t v (holder_in d) f s ≡ header_sound t v f
-    unfolding decode_header
-    header_last e s hs = holder_is t v (holder_in d) f s h.map hs ∙ sym (parts ∙ rw e)
+    header_last e s hs = header_last_lem v tb f lo hi d at ok_here len few (rw same at e) s (rw same at hs)

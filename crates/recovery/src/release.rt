@@ -9,25 +9,25 @@ ghost use Rattle.rules.specs.Recovery.{recovery};
 ghost use Rattle.stores.specs.Runs.{UpdatesMade, AllMade};
 ghost use Rattle.recovery.specs.Work.{recovery_now, freed, release_of};
 
-use sector::State;
+use sector::{Sector, State};
 use stores::{Crashed, Run};
 use volume::{FormedVolume, TabledVolume, VolumeClient};
 
 // What stores is lent the bytes, with `WellFormed` in a clause (`stores` says why); what reads takes a volume that is known to be so.
 
-// The header that recovery of the client leaves for file f.
+// The header that recovery of the client leaves for file f, built in the working sector lent: an array handed back would be a second
+// one on the stack.
 // `redo` is a flag, as in the definition `recovery`: a closure in its place is no plainer, since each contract speaks of it. The file is
 // given by its number beside the client: a second value that knows its volume would take a clause that the two volumes are one.
-fn free_header(c: VolumeClient<'_>, redo: bool, f: u8) -> [u8; 256]
+fn free_header(buf: &mut [u8; Sector::SIZE], c: VolumeClient<'_>, redo: bool, f: u8)
     requires { IsFile (view c.volume.bytes.now).table f }
-    ensures { result ≡ encode_header (file_at (view c.entry.volume.bytes.now).table f) (freed redo (view c.entry.volume.bytes.now) c.entry.number f) }
+    ensures { buf.new ≡ encode_header (file_at (view c.entry.volume.bytes.now).table f) (freed redo (view c.entry.volume.bytes.now) c.entry.number f) }
 {
-    let mut buf = *c.volume.tabled().file(f).header();
-    sector::set_holder(&mut buf, 0);
+    *buf = *c.volume.tabled().file(f).header();
+    sector::set_holder(buf, 0);
     if redo {
-        sector::redo_map(&mut buf, c.entries(), f);
+        sector::redo_map(buf, c.entries(), f);
     }
-    buf
 }
 
 // File f, which client k holds, is freed.
@@ -36,8 +36,9 @@ fn free_file(v: &mut [u8], k: u8, redo: bool, f: u8, run: Run) -> Result<Run, Cr
     requires { WellFormed v.old × IsClient (view v.old).table k × IsFile (view v.old).table f × (((view v.old).headers f).holder ≡ k) }
     ensures { UpdatesMade v.old (Ok run) (release_of redo (view v.old) k f) v.new result }
 {
-    let header = free_header(FormedVolume { bytes: v }.client(k), redo, f);
-    stores::put_header(v, f, &header, run)
+    let mut buf = sector::zeros();
+    free_header(&mut buf, FormedVolume { bytes: v }.client(k), redo, f);
+    stores::put_header(v, f, &buf, run)
 }
 
 // Client k's record is put in this state, with no entries.

@@ -1,6 +1,6 @@
 -- The fields of a line: what the library's search for a space finds, and what is left of a line while its number is read.
 use mathlib.Core.Path.{◌≡◌, refl, ap, sym, ◌∙◌}
-use mathlib.Core.Bool.{Bool, true, false, cond}
+use mathlib.Core.Bool.{Bool, true, false, cond, ◌&&◌}
 use mathlib.Core.List.{[], ◌∷◌}
 use mathlib.Core.Logic.{◌≢◌}
 use Prim.Native.Nat.{ℕ, suc, ◌+◌, ◌-◌, ◌≤◌, ◌<◌}
@@ -17,7 +17,7 @@ use Rattle.std.specs.List.{filter, position_or_len}
 use Rattle.sector.specs.Contents.{Bytes}
 use Rattle.lists.proofs.CaseLaws.{by_equal}
 use Rattle.lists.proofs.TestLaws.{drop_next}
-use Rattle.script.specs.Fields.{is_space, is_digit, arguments, before_space, behind_space, from_field, too_large, digits_from, has_word}
+use Rattle.script.specs.Fields.{is_space, is_digit, arguments, before_space, behind_space, from_field, too_large, digits_from, front, has_word}
 
 -- The spaces of a line, as the library counts them and finds the first one.
 pub counted : (l : Bytes) → length (filter is_space l) ≡ arguments l
@@ -80,6 +80,29 @@ same_word (x ∷ w) (c ∷ l) =
     (λ e. by_equal c 0x20
     (λ f. rw (f, ne_eqb _ _ e, ne_eqb 0x20 x (λ q. e (sym q))))
     (λ f. rw (ne_eqb _ _ e, ne_eqb _ _ f, same_word w l)))
+
+-- And where it begins with the word's bytes, with a space behind them, so that no more of a line is read than a word.
+pub begins_with_word : (w l : Bytes)
+    → (pointwise eqb (before_space w) (take (length (before_space w)) l) && is_space (front (drop (length (before_space w)) l))) ≡ has_word w l
+begins_with_word [] l = refl
+begins_with_word (x ∷ w) [] = by_equal x 0x20 (λ e. rw e) (λ e. rw (ne_eqb _ _ e, ne_eqb 0x20 x (λ q. e (sym q))))
+begins_with_word (x ∷ w) (c ∷ l) =
+    by_equal x 0x20
+    (λ e. rw e (by_equal c 0x20 (λ f. rw f) (λ f. rw (ne_eqb _ _ f))))
+    (λ e. by_equal c x
+    (λ f. rw (f, ne_eqb _ _ e, eq-eqb x x refl, begins_with_word w l))
+    (λ f. rw (ne_eqb _ _ e, ne_eqb _ _ f, ne_eqb x c (λ q. f (sym q)))))
+
+-- What each of the two tests says, where b is the word.
+module _ (w l : Bytes) {b : Bytes} (q : b ≡ before_space w) where
+  word_is : has_word w l ≡ (pointwise eqb b (take (length b) l) && is_space (front (drop (length b) l)))
+  word_is = rw q (sym (begins_with_word w l))
+
+  pub word_begins : pointwise eqb b (take (length b) l) ≡ true → is_space (front (drop (length b) l)) ≡ has_word w l
+  word_begins e = sym (word_is ∙ rw e)
+
+  pub word_missing : pointwise eqb b (take (length b) l) ≡ false → false ≡ has_word w l
+  word_missing e = sym (word_is ∙ rw e)
 
 -- A byte that is neither a space nor a digit.
 pub digits_no : (l : Bytes) (i : ℕ) (n : ℕ) → i < length l → get_or l i 0 ≢ 0x20 → is_digit (get_or l i 0) ≡ false

@@ -18,6 +18,8 @@ pub use marks::{is_active, set_active};
 use volume::FormedVolume;
 
 // Whether the session fits the volume. Ruled out: what `marks_fit` and `holds_fit` name.
+// Not inlined: it is long, and what it keeps would lie on the stack under the test of the volume.
+#[inline(never)]
 pub fn session_fits(v: FormedVolume<'_>, s: Session) -> bool
     ensures { result ≡ session_fits (view v.entry.bytes.now) s }
 {

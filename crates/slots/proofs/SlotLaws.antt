@@ -96,7 +96,7 @@ module _ (a : View) (k f : ℕ) (s t : List ℕ) (mapped : (y : ℕ) → has_byt
       (λ i. filter_both (leb start) (λ y. not (has_byte t y)) (from 0 n) i ++ filter_both (λ y. ltb y start) (λ y. not (has_byte t y)) (from 0 n) i)
 
   -- A search from `start` on finds r.
-  free_above : (r : ℕ) → LowestFailing (passes_over start t) n r → r < n → some r ≡ get_elem? (tried_from (start_for a f p) (free_slots a k f)) 0
+  pub free_above : (r : ℕ) → LowestFailing (passes_over start t) n r → r < n → some r ≡ get_elem? (tried_from (start_for a f p) (free_slots a k f)) 0
   free_above r high h = sym (rw are_tried (first_append (filter up (from 0 n)) (filter down (from 0 n)) r
       (filter_first up n 0 r (omega arith) (omega arith) (λ y lo hi. from_start start y t ∙ ap not (high.1 y hi))
       (from_start start r t ∙ ap not (high.2 h)))))
@@ -109,13 +109,13 @@ module _ (a : View) (k f : ℕ) (s t : List ℕ) (mapped : (y : ℕ) → has_byt
     passed : (y : ℕ) → y < q → down y ≡ false
     passed y h = rw (sym (from_zero y t) ∙ low.1 y h) (and-false (ltb y start))
 
-    free_again : q < n → some q ≡ get_elem? (tried_from (start_for a f p) (free_slots a k f)) 0
+    pub free_again : q < n → some q ≡ get_elem? (tried_from (start_for a f p) (free_slots a k f)) 0
     free_again h =
         let free : has_byte t q ≡ false = sym (from_zero q t) ∙ low.2 h in
         let before : ltb q start ≡ true = or_right (has_byte t q) (ltb q start) (high.1 q (omega arith)) free in
         sym (rw (are_tried, none_above) (filter_first down n 0 q (omega arith) (omega arith) (λ y lo hi. passed y hi) (rw (before, free))))
 
-    free_none : n ≤ q → none ≡ get_elem? (tried_from (start_for a f p) (free_slots a k f)) 0
+    pub free_none : n ≤ q → none ≡ get_elem? (tried_from (start_for a f p) (free_slots a k f)) 0
     free_none h = rw (are_tried, none_above, filter_none down n 0 (λ y lo hi. passed y (omega arith)))
 
   -- What a search from `start` on finds, and where it finds none, what one from 0 on finds.

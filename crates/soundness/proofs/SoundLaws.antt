@@ -50,7 +50,7 @@ module _ (v tb : Bytes) (ok : table_sound tb ≡ true) (sized : length v ≡ 256
   abbrev t : Table
   t = decode_table tb
 
-  few_clients : clients_in tb ≤ 4
+  pub few_clients : clients_in tb ≤ 4
   few_clients = rw (clients_are tb) at (facts tb ok).four
 
   ends : end_sector t ≤ sectors_in tb

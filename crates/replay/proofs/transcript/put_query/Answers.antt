@@ -10,7 +10,7 @@ part-requires c =
 
 pub returns-in-Err : goal.returns-in-Err
 returns-in-Err c =
-    let w = wrote_more (rw (c.from-in-Err.ensures, c.from.ensures) at c.put_head.ensures) (rw zero_pages at c.put.ensures) in
+    let w = wrote_more (rw (c.from-in-Err.ensures, c.from.ensures.0) at c.put_head.ensures) (rw zero_pages at c.put.ensures) in
     rw (refused_entry c.args.v.now c.args.s c.args.c c.args.o c.args.q c.requires.1 c.in-Err.r c.in-Err.is) at w
 
 pub returns-in-Ok : goal.returns-in-Ok
