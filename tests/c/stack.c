@@ -1,13 +1,15 @@
 // Peak stack of each exported function: the stack is painted, the function runs on it, and the paint that is gone is counted.
 // It is painted twice with different bytes, so that a byte equal to one paint shows in the other; both runs start from the
 // same volume. The return address counts. Every reply is compared, so that no refused call is measured for a done one.
+// A call may take LIMIT bytes, and ONE_SECTOR if it isn't vol_write, which chooses a slot too: with a second working sector
+// each would take more.
 #include <stdint.h>
 #include <stdio.h>
 #include <string.h>
 
 #include "../../include/volume.h"
 
-enum { LIMIT = 1024, ROOM = 65536, LENGTH = 262144, CLIENTS = 4, FILES = 16, LAST = 16, ENTRIES = 62 };
+enum { LIMIT = 1024, ONE_SECTOR = 640, ROOM = 65536, LENGTH = 262144, CLIENTS = 4, FILES = 16, LAST = 16, ENTRIES = 62 };
 // Reading holds of one client: of all files, and of the last.
 enum { ALL_FILES = 0xFFFF, LAST_BIT = 1 << (LAST - 1) };
 // The files end before sector 821. The last one's map names its first 120 slots of 240, so that new pages go behind them.
@@ -163,7 +165,7 @@ static void report(const char *name, struct call call, vol_reply expected) {
     if (again > worst) worst = again;
     printf("stack: %-40s %5zu bytes\n", name, worst);
     if (worst > highest) highest = worst;
-    if (worst > LIMIT) failed = 1;
+    if (worst > (call.make == write_on ? LIMIT : ONE_SECTOR)) failed = 1;
 }
 
 // Makes a call that isn't measured.
@@ -311,6 +313,6 @@ int main(void) {
     commit_and_abort();
     recover();
     readers();
-    printf("stack: the highest is %zu bytes, %d are allowed\n", highest, LIMIT);
+    printf("stack: the highest is %zu bytes, %d are allowed; %d where no page is written\n", highest, LIMIT, ONE_SECTOR);
     return failed;
 }

@@ -138,9 +138,6 @@ module _ {v : Volume} {tb : Bytes} (tested : Tested v tb) (f : ℕ) (lo : 1 ≤ 
   abbrev h : Header
   h = decode_header x d
 
-  abbrev recs : ℕ → Record
-  recs = record_in t (bytes_at t v)
-
   at : d ≡ bytes_at t v (header_place f)
   at = read ∙ ap (sector v) (place ∙ rw same (tested.header_is f lo hi))
 
@@ -156,9 +153,6 @@ module _ {v : Volume} {tb : Bytes} (tested : Tested v tb) (f : ℕ) (lo : 1 ≤ 
 
     few : (file_in tb (f - 1)).pages ≤ 120
     few = tested.pages f lo hi
-
-    parts : header_sound t v f ≡ (map_fits x.slots h.map && (eqb h.holder 0 || holder_fits recs t f h))
-    parts = rw same (parts_lem v tb f lo hi d at ok_here len few)
 
     pub map_no : map_fits x.slots h.map ≡ false → header_sound t v f ≡ false
     map_no e = map_no_lem v tb f lo hi d at ok_here len few (rw same at e)

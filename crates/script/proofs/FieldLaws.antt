@@ -13,20 +13,13 @@ use lib.ListN.{length, drop, take, get_or, drop_of_length-le, length-drop}
 use lib.Seq.{take-length, take_all}
 use Rattle.std.specs.Prelude.{Option, Some, None}
 use Rattle.std.specs.Option.{unwrap_or}
-use Rattle.std.specs.List.{filter, position_or_len}
+use Rattle.std.specs.List.{position_or_len}
 use Rattle.sector.specs.Contents.{Bytes}
 use Rattle.lists.proofs.CaseLaws.{by_equal}
 use Rattle.lists.proofs.TestLaws.{drop_next}
-use Rattle.script.specs.Fields.{is_space, is_digit, arguments, before_space, behind_space, from_field, too_large, digits_from, front, has_word}
+use Rattle.script.specs.Fields.{is_space, is_digit, before_space, behind_space, from_field, too_large, digits_from, front, has_word}
 
--- The spaces of a line, as the library counts them and finds the first one.
-pub counted : (l : Bytes) → length (filter is_space l) ≡ arguments l
-counted [] = refl
-counted (c ∷ l) =
-    by_equal c 0x20
-    (λ e. rw (eq-eqb _ _ e) (omega (arith, counted l)))
-    (λ e. rw (ne_eqb _ _ e) (omega (arith, counted l)))
-
+-- The first space of a line, as the library finds it.
 pub before_first_space : (l : Bytes) → take (position_or_len is_space l) l ≡ before_space l
 before_first_space [] = refl
 before_first_space (c ∷ l) = by_equal c 0x20 (λ e. rw (eq-eqb _ _ e)) (λ e. rw (ne_eqb _ _ e, one-add, before_first_space l))
@@ -69,19 +62,7 @@ module _ (l : Bytes) where
           sym (drop_of_length-le l {i = first_space l + 1} (omega arith)) ∙ behind_first_space l,
         )
 
--- A line has the word where their first fields are the same.
-pub same_word : (w l : Bytes) → pointwise eqb (before_space l) (before_space w) ≡ has_word w l
-same_word [] [] = refl
-same_word [] (c ∷ l) = by_equal c 0x20 (λ e. rw (eq-eqb _ _ e)) (λ e. rw (ne_eqb _ _ e))
-same_word (x ∷ w) [] = by_equal x 0x20 (λ e. rw e) (λ e. rw (ne_eqb _ _ e, ne_eqb 0x20 x (λ q. e (sym q))))
-same_word (x ∷ w) (c ∷ l) =
-    by_equal x 0x20
-    (λ e. rw e (by_equal c 0x20 (λ f. rw (eq-eqb _ _ f)) (λ f. rw (ne_eqb _ _ f))))
-    (λ e. by_equal c 0x20
-    (λ f. rw (f, ne_eqb _ _ e, ne_eqb 0x20 x (λ q. e (sym q))))
-    (λ f. rw (ne_eqb _ _ e, ne_eqb _ _ f, same_word w l)))
-
--- And where it begins with the word's bytes, with a space behind them, so that no more of a line is read than a word.
+-- A line has the word where it begins with the word's bytes, with a space behind them: no more of a line is read than a word.
 pub begins_with_word : (w l : Bytes)
     → (pointwise eqb (before_space w) (take (length (before_space w)) l) && is_space (front (drop (length (before_space w)) l))) ≡ has_word w l
 begins_with_word [] l = refl

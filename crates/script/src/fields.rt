@@ -7,7 +7,8 @@ const SPACE: u8 = b' ';
 // The value of a field that is no number, and of any number that is larger.
 const TOO_LARGE: usize = 1000000;
 
-// The number of arguments: one after each space. By a `for`: `filter(..).count()` takes 1.6 times as long.
+// The number of arguments: one after each space. Ruled out: one after a tab (`must-fail/tab_before_an_argument`); the fields in its
+// place, one more. By a `for`: `filter(..).count()` takes 1.6 times as long.
 pub fn arguments(line: &[u8]) -> usize
     ensures { result ≡ Fields.arguments line.now }
 {
@@ -85,7 +86,8 @@ pub fn argument(line: &[u8], n: usize) -> usize
 }
 
 // Whether the line's word is this one, up to its first space. Ruled out: `beginning 1` taken for `begin 1`
-// (`must-fail/prefix_is_the_word`). No more of the line is read than of the word: a line that is no command may be long.
+// (`must-fail/prefix_is_the_word`); a word that a tab ends (`must-fail/tab_ends_the_word`). No more of the line is read than of the
+// word: a line that is no command may be long.
 pub fn has_word(line: &[u8], word: &[u8]) -> bool
     ensures { result ≡ has_word word.now line.now }
 {
